@@ -1,0 +1,53 @@
+"""What must hold of the files themselves.
+
+- Every folder under crates/ is a line of crates.txt, and the other way round.
+- No definition or proof declares an axiom.
+- Every must-fail edit says in its first line what wrong program it is.
+- Sources are in the toolchain's layout (`rt fmt --check`).
+"""
+
+import pathlib
+import re
+import subprocess
+import sys
+
+ROOT = pathlib.Path(__file__).resolve().parent.parent
+
+
+def listed():
+    names = set()
+    for line in (ROOT / "crates.txt").read_text().splitlines():
+        line = line.split("#")[0].strip()
+        if line:
+            names.add(line.split(":")[0].strip())
+    return names
+
+
+def problems():
+    folders = {path.name for path in (ROOT / "crates").iterdir() if path.is_dir()}
+    for name in sorted(folders ^ listed()):
+        yield f"crates/{name} and crates.txt differ"
+    for path in sorted((ROOT / "crates").rglob("*.antt")):
+        for number, line in enumerate(path.read_text().splitlines(), 1):
+            if re.match(r"\s*axiom\b", line):
+                yield f"{path.relative_to(ROOT)}:{number}: an axiom"
+    for path in sorted((ROOT / "crates").glob("*/must-fail/*.edit")):
+        first = path.read_text().split("\n")[0]
+        if re.match(r"(file|old|new):", first) or not first.strip():
+            yield f"{path.relative_to(ROOT)} does not say what it is"
+    done = subprocess.run(["rt", "fmt", "--check"], cwd=ROOT, capture_output=True, text=True)
+    if done.returncode:
+        yield "rt fmt --check: " + (done.stdout + done.stderr).strip()
+
+
+def main():
+    found = list(problems())
+    for problem in found:
+        print("layout: " + problem)
+    if found:
+        sys.exit(1)
+    print("layout ok")
+
+
+if __name__ == "__main__":
+    main()

@@ -1,0 +1,223 @@
+-- What an accepted call has been given: the facts that later laws cite, so that none of them unfolds the checks.
+--     Sound f                       refusals 1 to 6 hold nowhere in the file
+--     SiteOk s                      the site is 1, 2 or 3
+--     RunOk, run-ok                 a run's inputs, tapes, line and buffers
+--     ViewOk, view-ok, ok-view      a view's; and back: what has them is accepted
+--     RetapeOk, retape-ok, ok-retape    re-taping's
+--     refused-13                    what holds of re-taping that is refused with 13
+-- Assumes nothing.
+use mathlib.Core.Path.{_≡_, refl, sym, ap, _∙_}
+use mathlib.Core.Bool.{Bool, true, false, not}
+use mathlib.Core.List.{List, [], _∷_}
+use Prim.Native.Nat.{ℕ, zero, suc, _+_, _*_, _<_}
+use native.Mathlib.Omega.{arith}
+use lib.ListN.{length, getD}
+use lib.Dec.{lit<}
+use Rattle.sharing.specs.Circuit.{Circuit, wires, all-ands, all-owned}
+use Rattle.sharing.proofs.FirstLaws.{Clear}
+use Rattle.scope.specs.File.{inputs-of, site-of, circuit}
+use Rattle.scope.specs.Answer.{refused}
+use Rattle.scope.specs.Checks.{Given, Holds, tested, good-owner, tapes-want, line-want, row, table, verdict, refuses}
+use Rattle.scope.specs.Order.{position, First}
+use Rattle.scope.specs.Calls.{Call, Check, Run, View, Retape, Listing, given-of, order, does, Accepts, run-wants, view-wants, retape-wants, job-file, job-inputs, job-tapes}
+use Rattle.scope.proofs.Refusals.{Clears, Passes, clears-none, verdict-first, first-passes}
+use Rattle.scope.proofs.RowLaws.{Bits, bits-clear, clear-bits, sizes-clear, clear-sizes, Keeps, keeps-clear, clear-keeps}
+use Rattle.scope.proofs.CallLaws.{accepts-passes, passes-accepts, refused-verdict}
+
+pub record Sound (f : List ℕ) : Type 0 where
+  pub c1 : Clears (given-of (Check f)) 1
+  pub c2 : Clears (given-of (Check f)) 2
+  pub c3 : Clears (given-of (Check f)) 3
+  pub c4 : Clears (given-of (Check f)) 4
+  pub c5 : Clears (given-of (Check f)) 5
+  pub c6 : Clears (given-of (Check f)) 6
+
+abbrev pub SiteOk : ℕ → Type 0
+SiteOk s = Clear (tested ((0, not (good-owner s)) ∷ [])) 1
+
+two-sizes : (a b p q : ℕ) → a ≡ p → b ≡ q → (k : ℕ) → k < 2 → getD (a ∷ b ∷ []) k 0 ≡ getD (p ∷ q ∷ []) k 0
+two-sizes a b p q e h zero l = e
+two-sizes a b p q e h (suc zero) l = h
+two-sizes a b p q e h (suc (suc k)) l = absurd (omega arith)
+
+module _ (f x t l outs tr st : List ℕ) where
+  pub record RunOk : Type 0 where
+    pub sound : Sound f
+    pub in-x : Bits x (inputs-of f)
+    pub in-t : Bits t (tapes-want (circuit f))
+    pub in-l : Bits l (line-want (circuit f))
+    pub outs-long : length outs ≡ 3 * circuit f .outs
+    pub tr-long : length tr ≡ line-want (circuit f)
+    pub st-long : length st ≡ 6 * wires (circuit f)
+
+  pub run-ok : Accepts (Run f x t l outs tr st) → RunOk
+  unfolding Passes order given-of row table
+  run-ok a =
+      let h = accepts-passes (Run f x t l outs tr st) a in
+      let sizes = sizes-clear (length outs ∷ length tr ∷ length st ∷ []) (run-wants (circuit f)) 3 (h .1 .1 .1 .1 .1 .1 .1 .1 .1 .0) in
+      record {
+        sound = record { c1 = h .0; c2 = h .1 .0; c3 = h .1 .1 .0; c4 = h .1 .1 .1 .0; c5 = h .1 .1 .1 .1 .0; c6 = h .1 .1 .1 .1 .1 .0 };
+        in-x = bits-clear x (inputs-of f) (h .1 .1 .1 .1 .1 .1 .0);
+        in-t = bits-clear t (tapes-want (circuit f)) (h .1 .1 .1 .1 .1 .1 .1 .0);
+        in-l = bits-clear l (line-want (circuit f)) (h .1 .1 .1 .1 .1 .1 .1 .1 .0);
+        outs-long = sizes 0 (omega arith);
+        tr-long = sizes 1 (omega arith);
+        st-long = sizes 2 (omega arith);
+      }
+
+module _ (f x t : List ℕ) (s : ℕ) (v st : List ℕ) where
+  pub record ViewOk : Type 0 where
+    pub sound : Sound f
+    pub in-x : Bits x (inputs-of f)
+    pub in-t : Bits t (tapes-want (circuit f))
+    pub site : SiteOk s
+    pub v-long : length v ≡ 2 * circuit f .ins + all-owned (circuit f) (site-of s) + 6 * all-ands (circuit f) + 3 * circuit f .outs
+    pub st-long : length st ≡ 6 * wires (circuit f)
+
+  pub view-ok : Accepts (View f x t s v st) → ViewOk
+  unfolding Passes order given-of row table
+  view-ok a =
+      let h = accepts-passes (View f x t s v st) a in
+      let sizes = sizes-clear (length v ∷ length st ∷ []) (view-wants (circuit f) s) 2 (h .1 .1 .1 .1 .1 .1 .1 .1 .1 .0) in
+      record {
+        sound = record { c1 = h .0; c2 = h .1 .0; c3 = h .1 .1 .0; c4 = h .1 .1 .1 .0; c5 = h .1 .1 .1 .1 .0; c6 = h .1 .1 .1 .1 .1 .0 };
+        in-x = bits-clear x (inputs-of f) (h .1 .1 .1 .1 .1 .1 .0);
+        in-t = bits-clear t (tapes-want (circuit f)) (h .1 .1 .1 .1 .1 .1 .1 .0);
+        site = h .1 .1 .1 .1 .1 .1 .1 .1 .0;
+        v-long = sizes 0 (omega arith);
+        st-long = sizes 1 (omega arith);
+      }
+
+  pub ok-view : ViewOk → Accepts (View f x t s v st)
+  unfolding Passes order given-of row table
+  ok-view k =
+      passes-accepts (View f x t s v st) (
+        k .sound .c1,
+        (
+          k .sound .c2,
+          (
+            k .sound .c3,
+            (
+              k .sound .c4,
+              (
+                k .sound .c5,
+                (
+                  k .sound .c6,
+                  (
+                    clear-bits x (inputs-of f) (k .in-x),
+                    (
+                      clear-bits t (tapes-want (circuit f)) (k .in-t),
+                      (
+                        k .site,
+                        (clear-sizes (length v ∷ length st ∷ []) (view-wants (circuit f) s) 2 (two-sizes _ _ _ _ (k .v-long) (k .st-long)), tt),
+                      ),
+                    ),
+                  ),
+                ),
+              ),
+            ),
+          ),
+        ),
+      )
+
+module _ (f x t y : List ℕ) (s : ℕ) (nt wr : List ℕ) where
+  -- all but 13
+  pub record RetapeGiven : Type 0 where
+    pub sound : Sound f
+    pub in-x : Bits x (inputs-of f)
+    pub in-t : Bits t (tapes-want (circuit f))
+    pub site : SiteOk s
+    pub nt-long : length nt ≡ tapes-want (circuit f)
+    pub wr-long : length wr ≡ 4 * wires (circuit f)
+    pub in-y : Bits y (inputs-of f)
+
+  pub record RetapeOk : Type 0 where
+    pub given : RetapeGiven
+    pub keeps : Keeps (site-of s) (circuit f) x y
+
+  abbrev called : Call
+  called = Retape f x t y s nt wr
+
+  given-by : ((n : ℕ) → position (order called) n < 11 → Clears (given-of called) n) → RetapeGiven
+  unfolding order given-of row table position
+  given-by h =
+      let sizes = sizes-clear (length nt ∷ length wr ∷ []) (retape-wants (circuit f)) 2 (h 10 (lit< tt)) in
+      record {
+        sound = record { c1 = h 1 (lit< tt); c2 = h 2 (lit< tt); c3 = h 3 (lit< tt); c4 = h 4 (lit< tt); c5 = h 5 (lit< tt); c6 = h 6 (lit< tt) };
+        in-x = bits-clear x (inputs-of f) (h 7 (lit< tt));
+        in-t = bits-clear t (tapes-want (circuit f)) (h 8 (lit< tt));
+        site = h 11 (lit< tt);
+        nt-long = sizes 0 (omega arith);
+        wr-long = sizes 1 (omega arith);
+        in-y = bits-clear y (inputs-of f) (h 12 (lit< tt));
+      }
+
+  pub retape-ok : Accepts called → RetapeOk
+  unfolding Passes order given-of row table
+  retape-ok a =
+      let h = accepts-passes called a in
+      let sizes = sizes-clear (length nt ∷ length wr ∷ []) (retape-wants (circuit f)) 2 (h .1 .1 .1 .1 .1 .1 .1 .1 .1 .0) in
+      record {
+        given = record {
+          sound = record { c1 = h .0; c2 = h .1 .0; c3 = h .1 .1 .0; c4 = h .1 .1 .1 .0; c5 = h .1 .1 .1 .1 .0; c6 = h .1 .1 .1 .1 .1 .0 };
+          in-x = bits-clear x (inputs-of f) (h .1 .1 .1 .1 .1 .1 .0);
+          in-t = bits-clear t (tapes-want (circuit f)) (h .1 .1 .1 .1 .1 .1 .1 .0);
+          site = h .1 .1 .1 .1 .1 .1 .1 .1 .0;
+          nt-long = sizes 0 (omega arith);
+          wr-long = sizes 1 (omega arith);
+          in-y = bits-clear y (inputs-of f) (h .1 .1 .1 .1 .1 .1 .1 .1 .1 .1 .0);
+        };
+        keeps = keeps-clear (site-of s) (circuit f) x y (h .1 .1 .1 .1 .1 .1 .1 .1 .1 .1 .1 .0);
+      }
+
+  pub ok-retape : RetapeOk → Accepts called
+  unfolding Passes order given-of row table
+  ok-retape k =
+      passes-accepts called (
+        k .given .sound .c1,
+        (
+          k .given .sound .c2,
+          (
+            k .given .sound .c3,
+            (
+              k .given .sound .c4,
+              (
+                k .given .sound .c5,
+                (
+                  k .given .sound .c6,
+                  (
+                    clear-bits x (inputs-of f) (k .given .in-x),
+                    (
+                      clear-bits t (tapes-want (circuit f)) (k .given .in-t),
+                      (
+                        k .given .site,
+                        (
+                          clear-sizes (length nt ∷ length wr ∷ []) (retape-wants (circuit f)) 2 (two-sizes _ _ _ _ (k .given .nt-long) (k .given .wr-long)),
+                          (
+                            clear-bits y (inputs-of f) (k .given .in-y),
+                            (clear-keeps (site-of s) (circuit f) x y (k .keeps), tt),
+                          ),
+                        ),
+                      ),
+                    ),
+                  ),
+                ),
+              ),
+            ),
+          ),
+        ),
+      )
+
+  -- refused with 13: all else is as it should be, and own inputs or opened bits are not kept
+  pub record Refused13 (p : ℕ) : Type 0 where
+    pub given : RetapeGiven
+    pub unkept : ¬ Keeps (site-of s) (circuit f) x y
+
+  pub refused-13 : (p : ℕ) → does called .answer ≡ refused 13 p → Refused13 p
+  unfolding order given-of row table position Holds
+  refused-13 p e =
+      let first : First (given-of called) (order called) 13 p = verdict-first (given-of called) (order called) 13 p .0 (refused-verdict called 13 p e) in
+      record {
+        given = given-by (λ n l. first-passes (given-of called) (order called) 13 p first n l);
+        unkept = λ k. clears-none (given-of called) 13 p (clear-keeps (site-of s) (circuit f) x y k) (first .holds);
+      }

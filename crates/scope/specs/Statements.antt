@@ -1,0 +1,59 @@
+-- Words of the demands that are no part of a call: what the theorems about whole calls speak of.
+--     Clean             "an undisturbed line"
+--     copies-of         the two copies that a site gets at an output, in a run on a line
+--     Alike             at an output every site gets the same bit twice
+--     StopsAt           "the first output where some site gets two unlike copies"
+--     opened-plain      each output's plain value, three times
+--     add-up            the sum of all entries of a table
+--     entry-of          the entry of a table for a sender and a receiver
+use mathlib.Core.Path.{_≡_}
+use mathlib.Core.List.{List, [], _∷_, _++_}
+use Prim.Native.Nat.{ℕ, zero, suc, _+_, _<_}
+use lib.ListN.{getD}
+use Rattle.sharing.specs.Ops.{bits}
+use Rattle.sharing.specs.Sites.{Site, s1, s2, s3, of}
+use Rattle.sharing.specs.Circuit.{Circuit}
+use Rattle.sharing.specs.Steps.{Pair}
+use Rattle.sharing.specs.Run.{copies-at}
+use Rattle.sharing.specs.Tapes.{read}
+use Rattle.sharing.specs.Line.{errors}
+use Rattle.scope.specs.File.{circuit}
+use Rattle.scope.specs.Plain.{plain-out}
+use Rattle.scope.specs.Calls.{at-wire}
+
+unfoldable pub Clean : List ℕ → Type 0
+Clean l = (k : ℕ) → getD l k 0 ≡ 0
+
+-- the two copies of the part that site s lacks, at output o of the run of file f on inputs x, tapes t and line l
+abbrev pub copies-of : List ℕ → List ℕ → List ℕ → List ℕ → ℕ → Site → Pair
+copies-of f x t l o s = of (copies-at bits (circuit f) (at-wire x) (read (circuit f) t) (errors (circuit f) l) o) s
+
+unfoldable pub Alike : List ℕ → List ℕ → List ℕ → List ℕ → ℕ → Type 0
+Alike f x t l o = (s : Site) → copies-of f x t l o s .0 ≡ copies-of f x t l o s .1
+
+pub record StopsAt (f x t l : List ℕ) (o : ℕ) : Type 0 where
+  pub below : o < circuit f .outs
+  pub unlike : ¬ Alike f x t l o
+  pub before : (p : ℕ) → p < o → Alike f x t l p
+
+-- 00: "opens at all three sites to its plain Boolean value"
+unfoldable pub opened-plain : Circuit → List ℕ → ℕ → List ℕ
+opened-plain C x zero = []
+opened-plain C x (suc o) = opened-plain C x o ++ (plain-out C x o ∷ plain-out C x o ∷ plain-out C x o ∷ [])
+
+unfoldable pub add-row : List ℕ → ℕ
+add-row [] = 0
+add-row (n ∷ ns) = n + add-row ns
+
+unfoldable pub add-up : List (List ℕ) → ℕ
+add-up [] = 0
+add-up (r ∷ rs) = add-row r + add-up rs
+
+-- rows and columns go by site, from site 1 on
+abbrev pub place-of : Site → ℕ
+place-of s1 = 0
+place-of s2 = 1
+place-of s3 = 2
+
+abbrev pub entry-of : List (List ℕ) → Site → Site → ℕ
+entry-of t a b = getD (getD t (place-of a) []) (place-of b) 0

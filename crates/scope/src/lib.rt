@@ -1,0 +1,1 @@
+// Definitions and laws only: document 01, call by call. Nothing here runs.

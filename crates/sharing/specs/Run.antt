@@ -1,0 +1,72 @@
+-- The run of the three sites, for every line: what each holds of every wire, every delivered bit, where it stops.
+--     after C x T E g       each site's pair of every wire, after the inputs and the first g gates
+--     gates-sent            the bits delivered so far
+--     output, copies-at     the wire of an output; the two copies that each site gets there
+--     objects               the sum of the sites that object there
+--     stop                  the first output at which a site objects, or O
+--     made                  how many outputs are opened, the last one perhaps in vain
+--     transcript            the delivered bits of a whole run
+--     opened-at, outputs    what the sites open
+use mathlib.Core.Bool.{Bool, not, cond}
+use mathlib.Core.List.{List, [], _∷_, _++_}
+use Prim.Native.Nat.{ℕ, zero, suc, min}
+use lib.ListN.{getD}
+use lib.Dec.{eqb}
+use Rattle.sharing.specs.Ops.{Ops}
+use Rattle.sharing.specs.Sites.{Trio}
+use Rattle.sharing.specs.Circuit.{Circuit, Draws, Errors}
+use Rattle.sharing.specs.Published.{deal}
+use Rattle.sharing.specs.Steps.{Pair, Wire, no-wire, in-wire, sent, gate-wire, gate-sent, six, copies, objecting, opened}
+use Rattle.sharing.specs.First.{first}
+
+module _ (R : Ops) (C : Circuit) (x : ℕ → ℕ) (T : Draws) (E : Errors) where
+  unfoldable pub ins-after : ℕ → List Wire
+  ins-after zero = []
+  ins-after (suc i) = ins-after i ++ (in-wire R (E .on-input i) (C .owner i) (deal R (x i) (T .in1 i) (T .in2 i)) ∷ [])
+
+  unfoldable pub after : ℕ → List Wire
+  after zero = ins-after (C .ins)
+  after (suc g) = after g ++ (gate-wire R (E .on-gate g) (T .g1 g) (T .g2 g) (C .gate g) (after g) ∷ [])
+
+  unfoldable pub ins-sent : ℕ → List ℕ
+  ins-sent zero = []
+  ins-sent (suc i) = ins-sent i ++ sent R (E .on-input i) (deal R (x i) (T .in1 i) (T .in2 i))
+
+  unfoldable pub gates-sent : ℕ → List ℕ
+  gates-sent zero = ins-sent (C .ins)
+  gates-sent (suc g) = gates-sent g ++ gate-sent R (E .on-gate g) (T .g1 g) (T .g2 g) (C .gate g) (after g)
+
+  unfoldable pub output : ℕ → Wire
+  output o = getD (after (C .gates)) (C .out o) no-wire
+
+  unfoldable pub out-sent : ℕ → List ℕ
+  out-sent o = six R (E .on-output o) (output o)
+
+  abbrev pub copies-at : ℕ → Trio Pair
+  copies-at o = copies (out-sent o)
+
+  unfoldable pub objects : ℕ → ℕ
+  objects o = objecting (copies-at o)
+
+  -- 01: "If any site objects at an output, the run ends there as an abort."
+  unfoldable pub stop : ℕ
+  stop = first (λ (o : ℕ). not (eqb (objects o) 0)) (C .outs)
+
+  unfoldable pub opens-sent : ℕ → List ℕ
+  opens-sent zero = gates-sent (C .gates)
+  opens-sent (suc o) = opens-sent o ++ out-sent o
+
+  -- 01: "the transcript holds everything through that opening's six bits"
+  unfoldable pub made : ℕ
+  made = min (suc stop) (C .outs)
+
+  unfoldable pub transcript : List ℕ
+  transcript = opens-sent made
+
+  unfoldable pub opened-at : ℕ → Trio ℕ
+  opened-at o = opened R (copies-at o) (output o)
+
+  -- 01: "for each output what site 1, 2 and 3 opened"
+  unfoldable pub outputs : ℕ → List ℕ
+  outputs zero = []
+  outputs (suc o) = outputs o ++ (opened-at o .at1 ∷ opened-at o .at2 ∷ opened-at o .at3 ∷ [])
