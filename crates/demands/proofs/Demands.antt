@@ -14,28 +14,35 @@ use Rattle.sharing.specs.Sites.{Site, s1, s2, s3, next, of}
 use Rattle.sharing.specs.Circuit.{Circuit, wires, all-ands, all-owned}
 use Rattle.sharing.specs.Published.{Parts, no-parts, total, parts, sent-bits}
 use Rattle.sharing.specs.Steps.{hold, copies, named}
-use Rattle.sharing.specs.Run.{made, opens-sent, transcript, objects}
-use Rattle.sharing.specs.Order.{routes, count}
-use Rattle.sharing.specs.Tapes.{read}
+use Rattle.sharing.specs.Run.{made, opens-delivered, transcript, objects}
+use Rattle.sharing.specs.Order.{routes, pick, count}
+use Rattle.sharing.specs.Tapes.{cut, read}
 use Rattle.sharing.specs.Line.{at-output, errors}
 use Rattle.sharing.specs.Store.{store, fill}
+use Rattle.sharing.specs.View.{own-ins}
 use Rattle.sharing.specs.Traffic.{input-adds, gate-adds, output-adds, sum, comparing, no-table}
 use Rattle.scope.specs.File.{circuit, site-of}
 use Rattle.scope.specs.Plain.{plain, plain-out}
 use Rattle.scope.specs.Answer.{good, abort, refused}
 use Rattle.scope.specs.Checks.{Holds}
-use Rattle.scope.specs.Order.{position, First}
-use Rattle.scope.specs.Calls.{Call, Traffic, Run, View, Retape, given-of, order, lent-before, does, Accepts, buffer, both-plain, at-wire}
-use Rattle.scope.specs.Statements.{Clean, copies-of, Alike, StopsAt, opened-plain, add-up, place-of, entry-of}
+use Rattle.scope.specs.Refusal.{position, those-of, FirstRefusal}
+use Rattle.scope.specs.Listing.{good-text}
+use Rattle.scope.specs.Calls.{Call, Check, Traffic, Run, View, Retape, Listing, given-of, fixed-order, concerns, order, lent-before, does, Accepts, buffer, at-wire, job-file, job-inputs}
+use Rattle.scope.specs.Statements.{Bits, Clean, copies-of, Alike, StopsAt, Keeps, opened-plain, plain-outs, add-up, place-of, entry-of}
 use Rattle.scope.proofs.Whole as W
 
 -- DEMAND 1. "Every public call checks all it is given. A refusal is a number and a place, given in one fixed order, when its condition holds
 -- and at no other time."
-pub refused-exactly : (c : Call) (N P : ℕ) → (does c .answer ≡ refused N P) ↔ First (given-of c) (order c) N P
+pub refused-exactly : (c : Call) (N P : ℕ) → (does c .answer ≡ refused N P) ↔ FirstRefusal (given-of c) (order c) N P
 refused-exactly = W.refused-exactly
 
 pub accepted-exactly : (c : Call) → Accepts c ↔ ((N P : ℕ) → position (order c) N < length (order c) → ¬ Holds (given-of c) N P)
 accepted-exactly = W.accepted-exactly
+
+-- "in one fixed order": every call makes its checks in the one order, and only those that concern it.
+pub one-order-for-all-calls : (c : Call) → order c ≡ those-of (concerns c) fixed-order
+unfolding order
+one-order-for-all-calls c = refl
 
 -- "Lent buffers are then unchanged, except a work room at refusal 13, whose bytes are laid down."
 pub refusal-changes-no-buffer : (c : Call) (N P : ℕ) → does c .answer ≡ refused N P → ¬ (N ≡ 13) → does c .lent ≡ lent-before c
@@ -47,6 +54,14 @@ pub refusal-13-lays-down-plain-values : (f x t y : List ℕ) (s : ℕ) (nt wr : 
     × (take (2 * wires (circuit f)) (buffer 1 c) ≡ plain (circuit f) x ++ plain (circuit f) y)
     × (drop (2 * wires (circuit f)) (buffer 1 c) ≡ drop (2 * wires (circuit f)) wr)
 refusal-13-lays-down-plain-values = W.refusal-13-lays-down
+
+-- Whatever the answer, no lent buffer changes its length.
+pub lent-buffers-keep-their-lengths : (c : Call) → map length (does c .lent) ≡ map length (lent-before c)
+lent-buffers-keep-their-lengths = W.lengths-stay
+
+-- 01: "so a file has at most 20,000 bytes"; line and transcript have "at most 42,496"
+pub accepted-files-are-small : (f : List ℕ) → Accepts (Check f) → (length f ≤ 20000) × (4 * circuit f .ins + 12 * all-ands (circuit f) + 6 * circuit f .outs ≤ 42496)
+accepted-files-are-small = W.limits-hold
 
 -- 01: "With a refusal the table is all zeros."
 pub refused-traffic-is-zero : (f : List ℕ) (N P : ℕ) → does (Traffic f) .answer ≡ refused N P → does (Traffic f) .returned ≡ no-table
@@ -116,7 +131,7 @@ module _ (f x t l outs tr st : List ℕ) (accepted : Accepts (Run f x t l outs t
   -- 01: "the transcript holds everything through that opening's six bits and its rest is unchanged"
   pub abort-keeps-the-rest : (o m : ℕ) → does the-run .answer ≡ abort o m
       → let n = 4 * C .ins + 12 * all-ands C + 6 * suc o in
-      (take n (buffer 1 the-run) ≡ opens-sent bits C (at-wire x) (read C t) (errors C l) (suc o)) × (drop n (buffer 1 the-run) ≡ drop n tr)
+      (take n (buffer 1 the-run) ≡ opens-delivered bits C (at-wire x) (read C t) (errors C l) (suc o)) × (drop n (buffer 1 the-run) ≡ drop n tr)
   abort-keeps-the-rest = W.abort-transcript f x t l outs tr st accepted
 
   -- LENGTHS. 01: transcript and line "have 4I+12A+6O bytes"
@@ -132,6 +147,10 @@ module _ (f x t y : List ℕ) (s : ℕ) (nt wr : List ℕ) where
 
   abbrev new : List ℕ
   new = buffer 0 re-taping
+
+  -- re-taping is accepted only where they are kept,
+  pub accepted-keeps-own-and-opened-bits : Accepts re-taping → Keeps (site-of s) (circuit f) x y
+  accepted-keeps-own-and-opened-bits = W.keeps-them f x t y s nt wr
 
   -- "Exactly one set of tapes gives that site the same view: own bits and tape, bits received, bits opened. The program returns it."
   pub new-tapes-give-the-same-view : Accepts re-taping → (v st : List ℕ) → Accepts (View f x t s v st)
@@ -159,9 +178,30 @@ module _ (f x t y : List ℕ) (s : ℕ) (nt wr : List ℕ) where
       → ¬ (buffer 0 (View f y u s v st) ≡ buffer 0 (View f x t s v st))
   where-13-no-tapes-exist = W.no-tapes f x t y s nt wr
 
+  pub changed-bits-are-refused-with-13 : (v st : List ℕ) → Accepts (View f x t s v st) → Bits y (circuit f .ins)
+      → length nt ≡ 2 * circuit f .ins + 6 * all-ands (circuit f) → length wr ≡ 4 * wires (circuit f) → ¬ Keeps (site-of s) (circuit f) x y
+      → (P : ℕ) × (does re-taping .answer ≡ refused 13 P)
+  changed-bits-are-refused-with-13 = W.says-so f x t y s nt wr
+
   -- 01: new tapes have 2I+6A bits
   pub new-tapes-length : Accepts re-taping → length new ≡ 2 * circuit f .ins + 6 * all-ands (circuit f)
   new-tapes-length = W.new-length f x t y s nt wr
+
+-- The view and the run are of one thing: on a clean line the view's store "holding afterwards what a clean run's store holds", its
+-- delivered bits are those of the run's transcript that reach the site, and its opened bits are the plain values.
+module _ (f x t l : List ℕ) (s : ℕ) (outs tr st v vst : List ℕ) (ran : Accepts (Run f x t l outs tr st)) (seen : Accepts (View f x t s v vst)) (clean : Clean l) where
+  pub view-store-is-a-clean-runs : buffer 1 (View f x t s v vst) ≡ buffer 2 (Run f x t l outs tr st)
+  view-store-is-a-clean-runs = W.view-store f x t l s outs tr st v vst ran seen clean
+
+  pub view-is-of-a-clean-run : buffer 0 (View f x t s v vst)
+      ≡ own-ins (site-of s) (circuit f) (at-wire x) (circuit f .ins) ++ of (cut (circuit f) t) (site-of s)
+      ++ pick (site-of s) (routes (circuit f) (circuit f .outs)) (buffer 1 (Run f x t l outs tr st)) ++ plain-outs (circuit f) x (circuit f .outs)
+  view-is-of-a-clean-run = W.view-of-the-run f x t l s outs tr st v vst ran seen clean
+
+-- 01: the listing's bits are the plain values
+pub listing-shows-plain-values : (j : List ℕ) → Accepts (Listing j)
+    → does (Listing j) .returned ≡ good-text (circuit (job-file j)) (plain-out (circuit (job-file j)) (job-inputs j)) ∷ []
+listing-shows-plain-values = W.listing-plain
 
 -- 01: a view's "length is 2I+Is+6A+3O"
 pub view-length : (f x t : List ℕ) (s : ℕ) (v st : List ℕ) → Accepts (View f x t s v st)

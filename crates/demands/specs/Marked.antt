@@ -2,7 +2,7 @@
 --     K-file, K-with a b     "owners 1, 2; gate AND 0 1; output wire 2; 42 bytes, offsets 32, 34, 40"; the same with gate AND a b
 --     K-tapes                "Tapes 1011, 0101, 10."
 --     K-line ks              the line of 26 bytes with the bits ks set
---     odd n                  n bytes that no call writes, lent before a call so that "unchanged" can be seen
+--     untouched n                  n bytes that no call writes, lent before a call so that "unchanged" can be seen
 --     rows                   the examples in order; proofs/Marked.antt computes them
 use mathlib.Core.List.{List, [], _∷_, _++_}
 use Prim.Native.Nat.{ℕ}
@@ -29,15 +29,15 @@ abbrev pub K-line : List ℕ → List ℕ
 K-line [] = replicate 26 0
 K-line (k ∷ ks) = set (K-line ks) k 1
 
-abbrev pub odd : ℕ → List ℕ
-odd n = replicate n 165
+abbrev pub untouched : ℕ → List ℕ
+untouched n = replicate n 165
 
 -- K's own run, with inputs 1 1 and a line
 abbrev pub K-run : List ℕ → Call
-K-run ks = Run K-file (1 ∷ 1 ∷ []) K-tapes (K-line ks) (odd 3) (odd 26) (odd 18)
+K-run ks = Run K-file (1 ∷ 1 ∷ []) K-tapes (K-line ks) (untouched 3) (untouched 26) (untouched 18)
 
 abbrev pub K-retape : ℕ → List ℕ → List ℕ → Call
-K-retape s x y = Retape K-file x K-tapes y s (odd 10) (odd 12)
+K-retape s x y = Retape K-file x K-tapes y s (untouched 10) (untouched 12)
 
 -- "Job K1 has 70 bytes: header 70, 16, 58, 60, the circuit below, inputs, tapes."
 abbrev pub K-job : List ℕ
@@ -78,13 +78,13 @@ rows =
     }
     -- K3: "site 3's view is 10 00 01 11 01 00 1"
     ∷ record {
-      call = View K-file (1 ∷ 1 ∷ []) K-tapes 3 (odd 13) (odd 18);
+      call = View K-file (1 ∷ 1 ∷ []) K-tapes 3 (untouched 13) (untouched 18);
       wanted = good-with ((1 ∷ 0 ∷ 0 ∷ 0 ∷ 0 ∷ 1 ∷ 1 ∷ 1 ∷ 0 ∷ 1 ∷ 0 ∷ 0 ∷ 1 ∷ []) ∷ K-store ∷ []);
     }
     -- K4: "line bit 20 set: abort, output 0, sites 2"
     ∷ record {
       call = K-run (20 ∷ []);
-      wanted = stopped-with (abort 0 2) (odd 3 ∷ (1 ∷ 0 ∷ 0 ∷ 0 ∷ 0 ∷ 1 ∷ 1 ∷ 0 ∷ 1 ∷ 1 ∷ 1 ∷ 1 ∷ 0 ∷ 1 ∷ 1 ∷ 1 ∷ 1 ∷ 0 ∷ 0 ∷ 1 ∷ 0 ∷ 0 ∷ 0 ∷ 0 ∷ 0 ∷ 1 ∷ []) ∷ K-store ∷ []);
+      wanted = stopped-with (abort 0 2) (untouched 3 ∷ (1 ∷ 0 ∷ 0 ∷ 0 ∷ 0 ∷ 1 ∷ 1 ∷ 0 ∷ 1 ∷ 1 ∷ 1 ∷ 1 ∷ 0 ∷ 1 ∷ 1 ∷ 1 ∷ 1 ∷ 0 ∷ 0 ∷ 1 ∷ 0 ∷ 0 ∷ 0 ∷ 0 ∷ 0 ∷ 1 ∷ []) ∷ K-store ∷ []);
     }
     -- K5: "line bits 23 and 24 set: no abort, outputs 0 1 1"
     ∷ record {
@@ -94,7 +94,7 @@ rows =
     -- K6: "line bit 8 set: abort, output 0, sites 4"
     ∷ record {
       call = K-run (8 ∷ []);
-      wanted = stopped-with (abort 0 4) (odd 3 ∷ (1 ∷ 0 ∷ 0 ∷ 0 ∷ 0 ∷ 1 ∷ 1 ∷ 0 ∷ 0 ∷ 1 ∷ 1 ∷ 1 ∷ 0 ∷ 1 ∷ 1 ∷ 1 ∷ 1 ∷ 0 ∷ 0 ∷ 1 ∷ 1 ∷ 0 ∷ 1 ∷ 0 ∷ 0 ∷ 1 ∷ []) ∷ (0 ∷ 1 ∷ 1 ∷ 0 ∷ 1 ∷ 0 ∷ 1 ∷ 0 ∷ 0 ∷ 0 ∷ 1 ∷ 0 ∷ 0 ∷ 0 ∷ 0 ∷ 1 ∷ 0 ∷ 1 ∷ []) ∷ []);
+      wanted = stopped-with (abort 0 4) (untouched 3 ∷ (1 ∷ 0 ∷ 0 ∷ 0 ∷ 0 ∷ 1 ∷ 1 ∷ 0 ∷ 0 ∷ 1 ∷ 1 ∷ 1 ∷ 0 ∷ 1 ∷ 1 ∷ 1 ∷ 1 ∷ 0 ∷ 0 ∷ 1 ∷ 1 ∷ 0 ∷ 1 ∷ 0 ∷ 0 ∷ 1 ∷ []) ∷ (0 ∷ 1 ∷ 1 ∷ 0 ∷ 1 ∷ 0 ∷ 1 ∷ 0 ∷ 0 ∷ 0 ∷ 1 ∷ 0 ∷ 0 ∷ 0 ∷ 0 ∷ 1 ∷ 0 ∷ 1 ∷ []) ∷ []);
     }
     -- K7: "line bit 0 set: outputs 1 1 1, no abort"
     ∷ record {
@@ -109,12 +109,12 @@ rows =
     -- K9: "site 3, inputs 1 1 to 1 0: refusal 13, place 2"
     ∷ record {
       call = K-retape 3 (1 ∷ 1 ∷ []) (1 ∷ 0 ∷ []);
-      wanted = stopped-with (refused 13 2) (odd 10 ∷ ((1 ∷ 1 ∷ 1 ∷ 1 ∷ 0 ∷ 0 ∷ []) ++ odd 6) ∷ []);
+      wanted = stopped-with (refused 13 2) (untouched 10 ∷ ((1 ∷ 1 ∷ 1 ∷ 1 ∷ 0 ∷ 0 ∷ []) ++ untouched 6) ∷ []);
     }
     -- K10: "site 1, inputs 1 0 to 0 0: refusal 13, place 0"
     ∷ record {
       call = K-retape 1 (1 ∷ 0 ∷ []) (0 ∷ 0 ∷ []);
-      wanted = stopped-with (refused 13 0) (odd 10 ∷ ((1 ∷ 0 ∷ 0 ∷ 0 ∷ 0 ∷ 0 ∷ []) ++ odd 6) ∷ []);
+      wanted = stopped-with (refused 13 0) (untouched 10 ∷ ((1 ∷ 0 ∷ 0 ∷ 0 ∷ 0 ∷ 0 ∷ []) ++ untouched 6) ∷ []);
     }
     -- K11: "gate AND 0 2: refusal 5, place 0. AND 0 0 is good."
     ∷ record { call = Check (K-with 0 2); wanted = stopped-with (refused 5 0) [] }

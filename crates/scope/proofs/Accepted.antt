@@ -4,7 +4,8 @@
 --     RunOk, run-ok                 a run's inputs, tapes, line and buffers
 --     ViewOk, view-ok, ok-view      a view's; and back: what has them is accepted
 --     RetapeOk, retape-ok, ok-retape    re-taping's
---     refused-13                    what holds of re-taping that is refused with 13
+--     refused-13, unkept-refused    re-taping is refused with 13 exactly where own inputs or opened bits are not kept
+--     ListingOk, listing-ok         a listing's;  check-sound: a checked file's
 -- Assumes nothing.
 use mathlib.Core.Path.{_≡_, refl, sym, ap, _∙_}
 use mathlib.Core.Bool.{Bool, true, false, not}
@@ -17,12 +18,13 @@ use Rattle.sharing.specs.Circuit.{Circuit, wires, all-ands, all-owned}
 use Rattle.sharing.proofs.FirstLaws.{Clear}
 use Rattle.scope.specs.File.{inputs-of, site-of, circuit}
 use Rattle.scope.specs.Answer.{refused}
-use Rattle.scope.specs.Checks.{Given, Holds, tested, good-owner, tapes-want, line-want, row, table, verdict, refuses}
-use Rattle.scope.specs.Order.{position, First}
-use Rattle.scope.specs.Calls.{Call, Check, Run, View, Retape, Listing, given-of, order, does, Accepts, run-wants, view-wants, retape-wants, job-file, job-inputs, job-tapes}
-use Rattle.scope.proofs.Refusals.{Clears, Passes, clears-none, verdict-first, first-passes}
-use Rattle.scope.proofs.RowLaws.{Bits, bits-clear, clear-bits, sizes-clear, clear-sizes, Keeps, keeps-clear, clear-keeps}
-use Rattle.scope.proofs.CallLaws.{accepts-passes, passes-accepts, refused-verdict}
+use Rattle.scope.specs.Checks.{Given, Holds, tested, one-to-three, tapes-want, line-want, row, refusal-table, fault, verdict, refuses}
+use Rattle.scope.specs.Refusal.{position, FirstRefusal, stands-in, those-of}
+use Rattle.scope.specs.Calls.{Call, Check, Run, View, Retape, Listing, given-of, concerns, order, does, Accepts, run-wants, view-wants, retape-wants, job-file, job-inputs, job-tapes}
+use Rattle.scope.proofs.Refusals.{Clears, Passes, clears-none, verdict-first, first-passes, verdict-skips, verdict-last}
+use Rattle.scope.specs.Statements.{Bits, Keeps}
+use Rattle.scope.proofs.RowLaws.{bits-clear, clear-bits, sizes-clear, clear-sizes, keeps-clear, clear-keeps}
+use Rattle.scope.proofs.CallLaws.{accepts-passes, passes-accepts, refused-verdict, verdict-refused}
 
 pub record Sound (f : List ℕ) : Type 0 where
   pub c1 : Clears (given-of (Check f)) 1
@@ -33,7 +35,7 @@ pub record Sound (f : List ℕ) : Type 0 where
   pub c6 : Clears (given-of (Check f)) 6
 
 abbrev pub SiteOk : ℕ → Type 0
-SiteOk s = Clear (tested ((0, not (good-owner s)) ∷ [])) 1
+SiteOk s = Clear (tested ((0, not (one-to-three s)) ∷ [])) 1
 
 two-sizes : (a b p q : ℕ) → a ≡ p → b ≡ q → (k : ℕ) → k < 2 → getD (a ∷ b ∷ []) k 0 ≡ getD (p ∷ q ∷ []) k 0
 two-sizes a b p q e h zero l = e
@@ -51,7 +53,7 @@ module _ (f x t l outs tr st : List ℕ) where
     pub st-long : length st ≡ 6 * wires (circuit f)
 
   pub run-ok : Accepts (Run f x t l outs tr st) → RunOk
-  unfolding Passes order given-of row table
+  unfolding Passes order concerns those-of stands-in given-of row refusal-table
   run-ok a =
       let h = accepts-passes (Run f x t l outs tr st) a in
       let sizes = sizes-clear (length outs ∷ length tr ∷ length st ∷ []) (run-wants (circuit f)) 3 (h .1 .1 .1 .1 .1 .1 .1 .1 .1 .0) in
@@ -75,7 +77,7 @@ module _ (f x t : List ℕ) (s : ℕ) (v st : List ℕ) where
     pub st-long : length st ≡ 6 * wires (circuit f)
 
   pub view-ok : Accepts (View f x t s v st) → ViewOk
-  unfolding Passes order given-of row table
+  unfolding Passes order concerns those-of stands-in given-of row refusal-table
   view-ok a =
       let h = accepts-passes (View f x t s v st) a in
       let sizes = sizes-clear (length v ∷ length st ∷ []) (view-wants (circuit f) s) 2 (h .1 .1 .1 .1 .1 .1 .1 .1 .1 .0) in
@@ -89,7 +91,7 @@ module _ (f x t : List ℕ) (s : ℕ) (v st : List ℕ) where
       }
 
   pub ok-view : ViewOk → Accepts (View f x t s v st)
-  unfolding Passes order given-of row table
+  unfolding Passes order concerns those-of stands-in given-of row refusal-table
   ok-view k =
       passes-accepts (View f x t s v st) (
         k .sound .c1,
@@ -139,7 +141,7 @@ module _ (f x t y : List ℕ) (s : ℕ) (nt wr : List ℕ) where
   called = Retape f x t y s nt wr
 
   given-by : ((n : ℕ) → position (order called) n < 11 → Clears (given-of called) n) → RetapeGiven
-  unfolding order given-of row table position
+  unfolding order concerns those-of stands-in given-of row refusal-table position
   given-by h =
       let sizes = sizes-clear (length nt ∷ length wr ∷ []) (retape-wants (circuit f)) 2 (h 10 (lit< tt)) in
       record {
@@ -153,7 +155,7 @@ module _ (f x t y : List ℕ) (s : ℕ) (nt wr : List ℕ) where
       }
 
   pub retape-ok : Accepts called → RetapeOk
-  unfolding Passes order given-of row table
+  unfolding Passes order concerns those-of stands-in given-of row refusal-table
   retape-ok a =
       let h = accepts-passes called a in
       let sizes = sizes-clear (length nt ∷ length wr ∷ []) (retape-wants (circuit f)) 2 (h .1 .1 .1 .1 .1 .1 .1 .1 .1 .0) in
@@ -171,7 +173,7 @@ module _ (f x t y : List ℕ) (s : ℕ) (nt wr : List ℕ) where
       }
 
   pub ok-retape : RetapeOk → Accepts called
-  unfolding Passes order given-of row table
+  unfolding Passes order concerns those-of stands-in given-of row refusal-table
   ok-retape k =
       passes-accepts called (
         k .given .sound .c1,
@@ -214,10 +216,74 @@ module _ (f x t y : List ℕ) (s : ℕ) (nt wr : List ℕ) where
     pub unkept : ¬ Keeps (site-of s) (circuit f) x y
 
   pub refused-13 : (p : ℕ) → does called .answer ≡ refused 13 p → Refused13 p
-  unfolding order given-of row table position Holds
+  unfolding order concerns those-of stands-in given-of row refusal-table position Holds
   refused-13 p e =
-      let first : First (given-of called) (order called) 13 p = verdict-first (given-of called) (order called) 13 p .0 (refused-verdict called 13 p e) in
+      let first : FirstRefusal (given-of called) (order called) 13 p = verdict-first (given-of called) (order called) 13 p .0 (refused-verdict called 13 p e) in
       record {
         given = given-by (λ n l. first-passes (given-of called) (order called) 13 p first n l);
         unkept = λ k. clears-none (given-of called) 13 p (clear-keeps (site-of s) (circuit f) x y k) (first .holds);
       }
+
+  -- and back: where all else is as it should be and they are not kept, it is refused with 13
+  pub unkept-refused : RetapeGiven → ¬ Keeps (site-of s) (circuit f) x y → (p : ℕ) × (does called .answer ≡ refused 13 p)
+  unfolding Passes order concerns those-of stands-in given-of row refusal-table
+  unkept-refused k h =
+      let g = given-of called in
+      let front : Passes g (1 ∷ 2 ∷ 3 ∷ 4 ∷ 5 ∷ 6 ∷ 7 ∷ 8 ∷ 11 ∷ 10 ∷ 12 ∷ []) = (
+        k .sound .c1,
+        (
+          k .sound .c2,
+          (
+            k .sound .c3,
+            (
+              k .sound .c4,
+              (
+                k .sound .c5,
+                (
+                  k .sound .c6,
+                  (
+                    clear-bits x (inputs-of f) (k .in-x),
+                    (
+                      clear-bits t (tapes-want (circuit f)) (k .in-t),
+                      (
+                        k .site,
+                        (
+                          clear-sizes (length nt ∷ length wr ∷ []) (retape-wants (circuit f)) 2 (two-sizes _ _ _ _ (k .nt-long) (k .wr-long)),
+                          (clear-bits y (inputs-of f) (k .in-y), tt),
+                        ),
+                      ),
+                    ),
+                  ),
+                ),
+              ),
+            ),
+          ),
+        ),
+      ) in (
+        fault (row g 13),
+        verdict-refused called 13 (fault (row g 13))
+            (verdict-skips g (1 ∷ 2 ∷ 3 ∷ 4 ∷ 5 ∷ 6 ∷ 7 ∷ 8 ∷ 11 ∷ 10 ∷ 12 ∷ []) (13 ∷ []) front
+            ∙ verdict-last g 13 (λ c. h (keeps-clear (site-of s) (circuit f) x y c))),
+      )
+
+-- a listing's job
+pub record ListingOk (j : List ℕ) : Type 0 where
+  pub sound : Sound (job-file j)
+  pub in-x : Bits (job-inputs j) (inputs-of (job-file j))
+  pub in-t : Bits (job-tapes j) (tapes-want (circuit (job-file j)))
+
+pub listing-ok : (j : List ℕ) → Accepts (Listing j) → ListingOk j
+unfolding Passes order concerns those-of stands-in given-of row refusal-table
+listing-ok j a =
+    let h = accepts-passes (Listing j) a .1 in
+    record {
+      sound = record { c1 = h .0; c2 = h .1 .0; c3 = h .1 .1 .0; c4 = h .1 .1 .1 .0; c5 = h .1 .1 .1 .1 .0; c6 = h .1 .1 .1 .1 .1 .0 };
+      in-x = bits-clear (job-inputs j) (inputs-of (job-file j)) (h .1 .1 .1 .1 .1 .1 .0);
+      in-t = bits-clear (job-tapes j) (tapes-want (circuit (job-file j))) (h .1 .1 .1 .1 .1 .1 .1 .0);
+    }
+
+pub check-sound : (f : List ℕ) → Accepts (Check f) → Sound f
+unfolding Passes order concerns those-of stands-in given-of
+check-sound f a =
+    let h = accepts-passes (Check f) a in
+    record { c1 = h .0; c2 = h .1 .0; c3 = h .1 .1 .0; c4 = h .1 .1 .1 .0; c5 = h .1 .1 .1 .1 .0; c6 = h .1 .1 .1 .1 .1 .0 }

@@ -86,7 +86,7 @@ module _ (c : Call) where
       go accepted q = refl
       go (refuses m r) q = absurd (a m r (verdict-refused m r q))
 
-  verdict-accepts : judged ≡ accepted → Accepts c
+  pub verdict-accepts : judged ≡ accepted → Accepts c
   unfolding Accepts
   verdict-accepts e n p h = accepted-not (given-of c) n p (sym e ∙ refused-verdict n p h)
 

@@ -5,4 +5,6 @@ pub mod CallLaws
 pub mod Accepted
 pub mod RunCall
 pub mod RetapeCall
+pub mod Limits
+pub mod Lengths
 pub mod Whole

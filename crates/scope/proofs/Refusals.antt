@@ -1,6 +1,6 @@
 -- The first refusal in an order: for every table, every order, every number and place.
 --     position          where a number stands in an order
---     First             what it is to be the first: it concerns the call, it holds, and nothing earlier does
+--     FirstRefusal      what it is to be the first: it concerns the call, it holds, and nothing earlier does
 --     verdict-first     the verdict is a refusal exactly when it is the first
 --     Clears, Passes    no condition of a number holds; of none of an order's numbers
 --     accepted-passes, passes-accepted    the verdict is accepted exactly when none holds
@@ -8,7 +8,7 @@
 use mathlib.Core.Path.{_≡_, refl, sym, ap, ap₂, _∙_, subst}
 use mathlib.Core.Bool.{Bool, true, false, cond, true≢false}
 use mathlib.Core.Logic.{_↔_}
-use mathlib.Core.List.{List, [], _∷_}
+use mathlib.Core.List.{List, [], _∷_, _++_}
 use Prim.Native.Nat.{ℕ, zero, suc, _<_, _≤_}
 use native.Mathlib.Omega.{arith}
 use lib.ListN.{length}
@@ -17,7 +17,7 @@ use borrow.Author.Tests.{ltb-true, ltb-false, lt-ltb, le-ltb, eqb-true, eqb-fals
 use Rattle.sharing.specs.First.{first}
 use Rattle.sharing.proofs.FirstLaws.{Clear, first-at, first-none, first-le, first-hit, first-before, first-clear}
 use Rattle.scope.specs.Checks.{Given, Row, row, Holds, Verdict, accepted, refuses, fault, verdict}
-use Rattle.scope.specs.Order.{position, First}
+use Rattle.scope.specs.Refusal.{position, FirstRefusal}
 
 -- no condition of number n holds
 abbrev pub Clears : Given → ℕ → Type 0
@@ -86,7 +86,7 @@ module _ (g : Given) where
   unfolding position
   position-next n m ns h = rw (ne-eqb n m h)
 
-  first-now : (n : ℕ) (ns : List ℕ) → fault (row g n) < row g n .span → First g (n ∷ ns) n (fault (row g n))
+  first-now : (n : ℕ) (ns : List ℕ) → fault (row g n) < row g n .span → FirstRefusal g (n ∷ ns) n (fault (row g n))
   first-now n ns h = record {
     concerns = let e = position-here n ns in omega arith;
     holds = fault-holds n h;
@@ -95,7 +95,7 @@ module _ (g : Given) where
   }
 
   -- a number that holds nowhere may stand in front
-  first-later : (n : ℕ) (ns : List ℕ) (m p : ℕ) → Clears g n → First g ns m p → First g (n ∷ ns) m p
+  first-later : (n : ℕ) (ns : List ℕ) (m p : ℕ) → Clears g n → FirstRefusal g ns m p → FirstRefusal g (n ∷ ns) m p
   first-later n ns m p c f =
       let other : ¬ (n ≡ m) = λ e. clears-none g n p c (subst (λ (z : ℕ). Holds g z p) (sym e) (f .holds)) in
       let e = position-next n m ns other in
@@ -110,7 +110,7 @@ module _ (g : Given) where
       go k q l true t e = subst (λ (z : ℕ). ¬ Holds g z q) (eqb-true n k t) (clears-none g n q c)
       go k q l false t e = f .before k q (let d = position-next n k ns (eqb-false n k t) in omega arith)
 
-  first-earlier : (n : ℕ) (ns : List ℕ) (m p : ℕ) → First g (n ∷ ns) m p → ¬ (n ≡ m) → First g ns m p
+  first-earlier : (n : ℕ) (ns : List ℕ) (m p : ℕ) → FirstRefusal g (n ∷ ns) m p → ¬ (n ≡ m) → FirstRefusal g ns m p
   first-earlier n ns m p f other =
       let e = position-next n m ns other in
       record {
@@ -138,25 +138,25 @@ module _ (g : Given) where
   unfolding verdict
   verdict-nil = refl
 
-  verdict-is-first : (ns : List ℕ) (n p : ℕ) → verdict g ns ≡ refuses n p → First g ns n p
+  verdict-is-first : (ns : List ℕ) (n p : ℕ) → verdict g ns ≡ refuses n p → FirstRefusal g ns n p
   verdict-is-first [] n p e = absurd (accepted-not n p (sym verdict-nil ∙ e))
   verdict-is-first (m ∷ ns) n p e = go (ltb (fault (row g m)) (row g m .span)) refl (verdict-is-first ns n p)
     where
-      go : (b : Bool) → ltb (fault (row g m)) (row g m .span) ≡ b → (verdict g ns ≡ refuses n p → First g ns n p) → First g (m ∷ ns) n p
+      go : (b : Bool) → ltb (fault (row g m)) (row g m .span) ≡ b → (verdict g ns ≡ refuses n p → FirstRefusal g ns n p) → FirstRefusal g (m ∷ ns) n p
       go true t ih =
           let h = ltb-true _ _ t in
           let q = refuses-inj m (fault (row g m)) n p (sym (verdict-here m ns h) ∙ e) in
-          subst (λ (z : ℕ). First g (m ∷ ns) z p) (q .0) (subst (λ (z : ℕ). First g (m ∷ ns) m z) (q .1) (first-now m ns h))
+          subst (λ (z : ℕ). FirstRefusal g (m ∷ ns) z p) (q .0) (subst (λ (z : ℕ). FirstRefusal g (m ∷ ns) m z) (q .1) (first-now m ns h))
       go false t ih =
           let h = ltb-false _ _ t in
           first-later m ns n p (fault-clears m h) (ih (sym (verdict-next m ns h) ∙ e))
 
-  first-is-verdict : (ns : List ℕ) (n p : ℕ) → First g ns n p → verdict g ns ≡ refuses n p
+  first-is-verdict : (ns : List ℕ) (n p : ℕ) → FirstRefusal g ns n p → verdict g ns ≡ refuses n p
   first-is-verdict [] n p f = absurd (let a = f .concerns in omega arith)
   first-is-verdict (m ∷ ns) n p f = go (eqb m n) refl (first-is-verdict ns n p)
     where
-      at-it : m ≡ n → First g (m ∷ ns) m p
-      at-it e = subst (λ (z : ℕ). First g (m ∷ ns) z p) (sym e) f
+      at-it : m ≡ n → FirstRefusal g (m ∷ ns) m p
+      at-it e = subst (λ (z : ℕ). FirstRefusal g (m ∷ ns) z p) (sym e) f
 
       here : m ≡ n → verdict g (m ∷ ns) ≡ refuses n p
       here e =
@@ -164,7 +164,7 @@ module _ (g : Given) where
           let l : p < row g m .span = holds-span m p (at-it e .holds) in
           verdict-here m ns (omega arith) ∙ ap₂ refuses e k
 
-      go : (b : Bool) → eqb m n ≡ b → (First g ns n p → verdict g ns ≡ refuses n p) → verdict g (m ∷ ns) ≡ refuses n p
+      go : (b : Bool) → eqb m n ≡ b → (FirstRefusal g ns n p → verdict g ns ≡ refuses n p) → verdict g (m ∷ ns) ≡ refuses n p
       go true t ih = here (eqb-true m n t)
       go false t ih =
           let other = eqb-false m n t in
@@ -174,7 +174,7 @@ module _ (g : Given) where
           verdict-next m ns (clears-fault m c) ∙ ih (first-earlier m ns n p f other)
 
   -- the verdict is a refusal exactly when it is the first in the order
-  pub verdict-first : (ns : List ℕ) (n p : ℕ) → (verdict g ns ≡ refuses n p) ↔ First g ns n p
+  pub verdict-first : (ns : List ℕ) (n p : ℕ) → (verdict g ns ≡ refuses n p) ↔ FirstRefusal g ns n p
   verdict-first ns n p = (verdict-is-first ns n p, first-is-verdict ns n p)
 
   pub accepted-passes : (ns : List ℕ) → verdict g ns ≡ accepted → Passes g ns
@@ -212,5 +212,19 @@ module _ (g : Given) where
       go n p l false t = h n p (let d = position-next m n ns (eqb-false m n t) in omega arith)
 
   -- what comes before the first refusal passes
-  pub first-passes : (ns : List ℕ) (n p : ℕ) → First g ns n p → (m : ℕ) → position ns m < position ns n → Clears g m
+  pub first-passes : (ns : List ℕ) (n p : ℕ) → FirstRefusal g ns n p → (m : ℕ) → position ns m < position ns n → Clears g m
   first-passes ns n p f m l = none-clears g m (λ q. f .before m q l)
+
+  -- what passes may be left out in front
+  pub verdict-skips : (ns ms : List ℕ) → Passes g ns → verdict g (ns ++ ms) ≡ verdict g ms
+  unfolding Passes
+  verdict-skips [] ms h = refl
+  verdict-skips (n ∷ ns) ms h = verdict-next n (ns ++ ms) (clears-fault n (h .0)) ∙ verdict-skips ns ms (h .1)
+
+  -- the last number of an order, where its condition holds somewhere
+  pub verdict-last : (n : ℕ) → ¬ Clears g n → verdict g (n ∷ []) ≡ refuses n (fault (row g n))
+  verdict-last n h = go (ltb (fault (row g n)) (row g n .span)) refl
+    where
+      go : (b : Bool) → ltb (fault (row g n)) (row g n .span) ≡ b → verdict g (n ∷ []) ≡ refuses n (fault (row g n))
+      go true t = verdict-here n [] (ltb-true _ _ t)
+      go false t = absurd (h (fault-clears n (ltb-false _ _ t)))

@@ -30,7 +30,7 @@ use Rattle.scope.specs.Answer.{Answer, good, After}
 use Rattle.scope.specs.Checks.{tapes-want}
 use Rattle.scope.specs.Calls.{Call, View, Retape, does, when-good, Accepts, at-wire}
 use Rattle.scope.proofs.PlainLaws.{plain-is}
-use Rattle.scope.proofs.RowLaws.{Bits, Keeps}
+use Rattle.scope.specs.Statements.{Bits, Keeps}
 use Rattle.scope.proofs.CallLaws.{accepts-does}
 use Rattle.scope.proofs.Accepted.{Sound, SiteOk, ViewOk, view-ok, ok-view, RetapeGiven, RetapeOk, retape-ok, ok-retape}
 use Rattle.scope.proofs.RunCall.{bit-draws}
@@ -66,7 +66,7 @@ own-all s C x y bx by k i e = go (ltb i (C .ins)) refl
         let lx = bx .long in let ly = by .long in
         List·getD-eq-default y 0 (omega arith) ∙ sym (List·getD-eq-default x 0 (omega arith))
 
-pub alike : (s : Site) (C : Circuit) (x y : List ℕ) → Bits x (C .ins) → Bits y (C .ins) → Keeps s C x y → L.Alike bit-group s C (at-wire x) (at-wire y)
+pub alike : (s : Site) (C : Circuit) (x y : List ℕ) → Bits x (C .ins) → Bits y (C .ins) → Keeps s C x y → L.Kept bit-group s C (at-wire x) (at-wire y)
 alike s C x y bx by k = record {
   ok-x = λ i. tt;
   ok-y = λ i. tt;

@@ -18,10 +18,7 @@ use Rattle.sharing.proofs.FirstLaws.{Clear}
 use Rattle.sharing.proofs.SiteLaws.{is-itself, Seen, itself, behind, before, seen, is-behind, is-before}
 use Rattle.scope.specs.Checks.{bits-row}
 use Rattle.scope.specs.Plain.{plain-out}
-
-pub record Bits (l : List ℕ) (want : ℕ) : Type 0 where
-  pub long : length l ≡ want
-  pub small : (k : ℕ) → getD l k 0 < 2
+use Rattle.scope.specs.Statements.{Bits, Keeps}
 
 and-left : (a b : Bool) → a ≡ true → (a && b) ≡ false → b ≡ false
 and-left a b e h = rw e at h
@@ -73,11 +70,6 @@ is-true s t e = go t (seen s t) e
     go t itself e = refl
     go t behind e = absurd (true≢false (sym e ∙ is-behind s))
     go t before e = absurd (true≢false (sym e ∙ is-before s))
-
--- 00: "other inputs to the same circuit that keep that site's own bits and all opened bits"
-pub record Keeps (s : Site) (C : Circuit) (x y : List ℕ) : Type 0 where
-  pub own : (i : ℕ) → i < C .ins → C .owner i ≡ s → getD y i 0 ≡ getD x i 0
-  pub opens : (o : ℕ) → o < C .outs → plain-out C y o ≡ plain-out C x o
 
 module _ (s : Site) (C : Circuit) (x y : List ℕ) where
   abbrev pub differs : ℕ → Bool

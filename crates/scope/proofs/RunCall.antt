@@ -21,7 +21,7 @@ use Rattle.sharing.specs.Sites.{Site, of, Trio}
 use Rattle.sharing.specs.Circuit.{Circuit, Draws, Errors, no-errors, wires}
 use Rattle.sharing.specs.Published.{parts, sent-bits, no-parts, total}
 use Rattle.sharing.specs.Steps.{Pair, Wire, hold, copies, objecting}
-use Rattle.sharing.specs.Run.{after, out-sent, copies-at, objects, stop, opens-sent, made, transcript, opened-at, outputs}
+use Rattle.sharing.specs.Run.{after, out-delivered, copies-at, objects, stop, opens-delivered, made, transcript, opened-at, outputs}
 use Rattle.sharing.specs.Tapes.{read}
 use Rattle.sharing.specs.Line.{at-input, at-gate, at-output, errors}
 use Rattle.sharing.specs.Store.{store, fill}
@@ -35,9 +35,8 @@ use Rattle.scope.specs.Plain.{plain, plain-out}
 use Rattle.scope.specs.Answer.{Answer, good, abort, refused, After}
 use Rattle.scope.specs.Checks.{line-want}
 use Rattle.scope.specs.Calls.{Call, Run, does, when-good, ran, Accepts, at-wire}
-use Rattle.scope.specs.Statements.{Clean, copies-of, Alike, StopsAt, opened-plain}
+use Rattle.scope.specs.Statements.{Clean, copies-of, Alike, StopsAt, opened-plain, Bits}
 use Rattle.scope.proofs.PlainLaws.{plain-is}
-use Rattle.scope.proofs.RowLaws.{Bits}
 use Rattle.scope.proofs.CallLaws.{accepts-does}
 use Rattle.scope.proofs.Accepted.{RunOk, run-ok}
 
@@ -49,6 +48,12 @@ bit-draws T = record { of-in1 = λ i. tt; of-in2 = λ i. tt; of-g1 = λ g s. tt;
 pub clean-errors : (C : Circuit) (l : List ℕ) → Clean l → errors C l ≡ no-errors
 unfolding errors Clean
 clean-errors C l h = λ j. record { on-input = λ i k. h (at-input i + k) j; on-gate = λ g k. h (at-gate C g + k) j; on-output = λ o k. h (at-output C o + k) j }
+
+-- on a clean line all three sites open an output to its plain value
+pub opens-plain : (C : Circuit) (x t : List ℕ) → ((k : ℕ) → getD x k 0 < 2) → (o : ℕ) → opened-at bits C (at-wire x) (read C t) no-errors o ≡ thrice (plain-out C x o)
+opens-plain C x t h o =
+    opened-value bit-group C (at-wire x) (read C t) (bit-draws (read C t)) (λ i. tt) o
+    ∙ ap (λ (vs : List ℕ). thrice (getD vs (C .out o) 0)) (sym (plain-is C x h))
 
 abbrev is-abort : Answer → Bool
 is-abort (good l) = false
@@ -189,7 +194,7 @@ module _ (f x t l outs tr st : List ℕ) (a : Accepts (Run f x t l outs tr st)) 
   unfolding transcript
   written-transcript = sent-length bits C X D E (made bits C X D E)
 
-  at-six : (o : ℕ) → o < made bits C X D E → (k : ℕ) → k < 6 → getD (take 6 (drop (at-output C o) (getD (does the-run .lent) 1 []))) k 0 ≡ getD (out-sent bits C X D E o) k 0
+  at-six : (o : ℕ) → o < made bits C X D E → (k : ℕ) → k < 6 → getD (take 6 (drop (at-output C o) (getD (does the-run .lent) 1 []))) k 0 ≡ getD (out-delivered bits C X D E o) k 0
   unfolding transcript at-output
   at-six o h k q =
       let tr′ = getD (does the-run .lent) 1 [] in
@@ -221,9 +226,7 @@ module _ (f x t l outs tr st : List ℕ) (a : Accepts (Run f x t l outs tr st)) 
     unfolding outputs opened-plain
     outs-thrice zero = refl
     outs-thrice (suc o) =
-        let v : opened-at bits C X D no-errors o ≡ thrice (plain-out C x o) =
-        opened-value bit-group C X D (bit-draws D) (λ i. tt) o
-        ∙ ap (λ (vs : List ℕ). thrice (getD vs (C .out o) 0)) (sym (plain-is C x (run-ok f x t l outs tr st a .in-x .small))) in
+        let v : opened-at bits C X D no-errors o ≡ thrice (plain-out C x o) = opens-plain C x t (run-ok f x t l outs tr st a .in-x .small) o in
         ap₂ _++_ (outs-thrice o) (ap (λ (u : Trio ℕ). u .at1 ∷ u .at2 ∷ u .at3 ∷ []) v)
 
     pub clean-outputs : getD (does the-run .lent) 0 [] ≡ opened-plain C x (C .outs)
@@ -239,8 +242,8 @@ module _ (f x t l outs tr st : List ℕ) (a : Accepts (Run f x t l outs tr st)) 
     all-sent : transcript bits C X D E ≡ sent-bits bits C X D (C .outs)
     unfolding transcript
     all-sent =
-        ap (opens-sent bits C X D E) (good-made clean-quiet)
-        ∙ ap (λ (e : Errors). opens-sent bits C X D e (C .outs)) (clean-errors C l clean)
+        ap (opens-delivered bits C X D E) (good-made clean-quiet)
+        ∙ ap (λ (e : Errors). opens-delivered bits C X D e (C .outs)) (clean-errors C l clean)
         ∙ clean-sent bit-group C X D (bit-draws D) (C .outs)
 
     pub clean-transcript : getD (does the-run .lent) 1 [] ≡ sent-bits bits C X D (C .outs)

@@ -1,6 +1,6 @@
 -- The demands about whole calls, put together from the laws of this crate and of sharing. demands/proofs/Demands.antt states them.
 -- Assumes nothing.
-use mathlib.Core.Path.{_≡_, refl, sym, ap, ap₂, _∙_, subst}
+use mathlib.Core.Path.{_≡_, refl, sym, ap, ap₂, _∙_, subst, fun-ext}
 use mathlib.Core.Bool.{Bool, true, false, not, cond}
 use mathlib.Core.Logic.{_↔_}
 use mathlib.Core.List.{List, [], _∷_, _++_, map}
@@ -11,22 +11,22 @@ use lib.Seq.{take-at, drop-at, take-append-le}
 use lib.Dec.{eqb}
 use borrow.Author.Tests.{ne-eqb}
 use Rattle.sharing.specs.Ops.{bits}
-use Rattle.sharing.specs.Sites.{Site, s1, s2, s3, next, of}
-use Rattle.sharing.specs.Circuit.{Circuit, Draws, Errors, wires, all-ands, all-owned}
+use Rattle.sharing.specs.Sites.{Site, s1, s2, s3, next, of, Trio}
+use Rattle.sharing.specs.Circuit.{Circuit, Draws, Errors, no-errors, wires, all-ands, all-owned}
 use Rattle.sharing.specs.Published.{Parts, no-parts, total, parts, sent-bits}
 use Rattle.sharing.specs.Steps.{Wire, hold, no-wire, copies, named, objecting}
-use Rattle.sharing.specs.Run.{after, made, opens-sent, transcript, objects, copies-at}
-use Rattle.sharing.specs.Order.{routes, count}
-use Rattle.sharing.specs.Tapes.{read}
+use Rattle.sharing.specs.Run.{after, made, opens-delivered, transcript, objects, copies-at}
+use Rattle.sharing.specs.Order.{routes, pick, count}
+use Rattle.sharing.specs.Tapes.{cut, read}
 use Rattle.sharing.specs.Line.{at-output, errors}
 use Rattle.sharing.specs.Store.{store, fill}
-use Rattle.sharing.specs.View.{view-from}
+use Rattle.sharing.specs.View.{own-ins, seen-outs, view-from}
 use Rattle.sharing.specs.Retape.{new-tapes}
-use Rattle.sharing.specs.Traffic.{input-adds, gate-adds, output-adds, sum, comparing, entry, table, table-total, no-table}
+use Rattle.sharing.specs.Traffic.{input-adds, gate-adds, output-adds, sum, comparing, entry, traffic-table, table-total, no-table}
 use Rattle.sharing.proofs.BitLaws.{bit-group}
 use Rattle.sharing.proofs.SiteLaws.{by-site}
 use Rattle.sharing.proofs.Parts.{total-at}
-use Rattle.sharing.proofs.Clean.{look-hold, held}
+use Rattle.sharing.proofs.Clean.{look-hold, held, clean-sent}
 use Rattle.sharing.proofs.RunLaws as RL
 use Rattle.sharing.proofs.StoreLaws.{fill-rest, store-at, fill-all}
 use Rattle.sharing.proofs.ViewLaws as VL
@@ -36,21 +36,23 @@ use Rattle.sharing.proofs.TrafficLaws.{table-total-is, no-diagonal, entry-count
 use Rattle.scope.specs.File.{circuit, site-of}
 use Rattle.scope.specs.Plain.{plain, plain-out}
 use Rattle.scope.specs.Answer.{Answer, good, abort, refused, After}
-use Rattle.scope.specs.Checks.{Holds, tapes-want}
-use Rattle.scope.specs.Order.{position, First}
-use Rattle.scope.specs.Calls.{Call, Open, GateAt, OwnerAt, OutputAt, Check, Traffic, Plain, Run, View, Retape, Listing, given-of, order, lent-before, when-good, when-refused, returned-refused, does, Accepts, buffer, both-plain, at-wire}
-use Rattle.scope.specs.Statements.{Clean, copies-of, Alike, StopsAt, opened-plain, add-row, add-up, place-of, entry-of}
+use Rattle.scope.specs.Checks.{Holds, tapes-want, line-want}
+use Rattle.scope.specs.Refusal.{position, FirstRefusal}
+use Rattle.scope.specs.Calls.{Call, Open, GateAt, OwnerAt, OutputAt, Check, Traffic, Plain, Run, View, Retape, Listing, given-of, order, lent-before, when-good, when-refused, lent-at-13, returned-refused, does, Accepts, buffer, both-plain, at-wire, job-file, job-inputs, job-tapes}
+use Rattle.scope.specs.Statements.{plain-outs, Clean, copies-of, Alike, StopsAt, opened-plain, add-row, add-up, place-of, entry-of, Bits, Keeps}
 use Rattle.scope.proofs.PlainLaws.{plain-is, plain-length}
 use Rattle.scope.proofs.Refusals.{verdict-first, passes-none, none-passes}
-use Rattle.scope.proofs.RowLaws.{Bits, Keeps}
 use Rattle.scope.proofs.CallLaws.{does-refused, verdict-refused, refused-verdict, accepts-passes, passes-accepts, accepts-does}
-use Rattle.scope.proofs.Accepted.{RunOk, run-ok, ViewOk, view-ok, ok-view, RetapeGiven, RetapeOk, retape-ok, ok-retape, refused-13}
+use Rattle.scope.proofs.Accepted.{RunOk, run-ok, ViewOk, view-ok, ok-view, RetapeGiven, RetapeOk, retape-ok, ok-retape, refused-13, unkept-refused, listing-ok, check-sound}
+use Rattle.scope.specs.Listing.{good-text}
+use Rattle.scope.proofs.Limits.{limits, small-file, small-line}
+use Rattle.scope.proofs.Lengths.{lent-lengths}
 use Rattle.scope.proofs.RunCall as RC
 use Rattle.scope.proofs.RetapeCall.{view-does, retape-does, keeps-back, keeps-through, taped, alike, new-bits, view-keeps}
 
 -- Demand 1
 
-pub refused-exactly : (c : Call) (N P : ℕ) → (does c .answer ≡ refused N P) ↔ First (given-of c) (order c) N P
+pub refused-exactly : (c : Call) (N P : ℕ) → (does c .answer ≡ refused N P) ↔ FirstRefusal (given-of c) (order c) N P
 refused-exactly c N P =
     let v = verdict-first (given-of c) (order c) N P in
     (λ e. v .0 (refused-verdict c N P e), λ h. verdict-refused c N P (v .1 h))
@@ -62,18 +64,8 @@ accepted-exactly c = (
 )
 
 unchanged : (c : Call) (N : ℕ) → ¬ (N ≡ 13) → when-refused c N ≡ lent-before c
-unfolding when-refused lent-before
-unchanged (Open f) N h = refl
-unchanged (GateAt f n) N h = refl
-unchanged (OwnerAt f n) N h = refl
-unchanged (OutputAt f n) N h = refl
-unchanged (Check f) N h = refl
-unchanged (Traffic f) N h = refl
-unchanged (Plain f x vs) N h = refl
-unchanged (Run f x t l outs tr st) N h = refl
-unchanged (View f x t s v st) N h = refl
-unchanged (Retape f x t y s nt wr) N h = rw (ne-eqb N 13 h)
-unchanged (Listing j) N h = refl
+unfolding when-refused
+unchanged c N h = rw (ne-eqb N 13 h)
 
 pub refusal-changes-no-buffer : (c : Call) (N P : ℕ) → does c .answer ≡ refused N P → ¬ (N ≡ 13) → does c .lent ≡ lent-before c
 refusal-changes-no-buffer c N P e h = ap (λ (z : After). z .lent) (does-refused c N P (refused-verdict c N P e)) ∙ unchanged c N h
@@ -87,7 +79,7 @@ pub refusal-13-lays-down : (f x t y : List ℕ) (s : ℕ) (nt wr : List ℕ) (P 
     → (buffer 0 c ≡ nt)
     × (take (2 * wires (circuit f)) (buffer 1 c) ≡ plain (circuit f) x ++ plain (circuit f) y)
     × (drop (2 * wires (circuit f)) (buffer 1 c) ≡ drop (2 * wires (circuit f)) wr)
-unfolding when-refused both-plain fill
+unfolding when-refused lent-at-13 both-plain fill
 refusal-13-lays-down f x t y s nt wr P e =
     let d = does-refused (Retape f x t y s nt wr) 13 P (refused-verdict (Retape f x t y s nt wr) 13 P e) in
     let room : buffer 1 (Retape f x t y s nt wr) ≡ fill wr (both-plain (circuit f) x y) = ap (λ (z : After). getD (z .lent) 1 []) d in
@@ -96,6 +88,12 @@ refusal-13-lays-down f x t y s nt wr P e =
       ap (take (2 * wires (circuit f))) room ∙ take-at (both-plain (circuit f) x y) _ (2 * wires (circuit f)) n,
       ap₂ drop (sym n) room ∙ fill-rest wr (both-plain (circuit f) x y) ∙ ap (λ (m : ℕ). drop m wr) n,
     )
+
+pub lengths-stay : (c : Call) → map length (does c .lent) ≡ map length (lent-before c)
+lengths-stay = lent-lengths
+
+pub limits-hold : (f : List ℕ) → Accepts (Check f) → (length f ≤ 20000) × (line-want (circuit f) ≤ 42496)
+limits-hold f a = let l = limits f (check-sound f a) in (small-file f l, small-line f l)
 
 pub refused-traffic : (f : List ℕ) (N P : ℕ) → does (Traffic f) .answer ≡ refused N P → does (Traffic f) .returned ≡ no-table
 unfolding returned-refused
@@ -183,12 +181,12 @@ module _ (f x t l outs tr st : List ℕ) (a : Accepts (Run f x t l outs tr st)) 
 
   pub abort-transcript : (o m : ℕ) → does the-run .answer ≡ abort o m
       → let n = 4 * C .ins + 12 * all-ands C + 6 * suc o in
-      (take n (buffer 1 the-run) ≡ opens-sent bits C (at-wire x) D E (suc o)) × (drop n (buffer 1 the-run) ≡ drop n tr)
+      (take n (buffer 1 the-run) ≡ opens-delivered bits C (at-wire x) D E (suc o)) × (drop n (buffer 1 the-run) ≡ drop n tr)
   unfolding transcript fill at-output
   abort-transcript o m e =
-      let T : List ℕ = opens-sent bits C (at-wire x) D E (suc o) in
+      let T : List ℕ = opens-delivered bits C (at-wire x) D E (suc o) in
       let n : length T ≡ at-output C (suc o) = RL.sent-length bits C (at-wire x) D E (suc o) in
-      let b : buffer 1 the-run ≡ fill tr T = RC.run-transcript f x t l outs tr st a ∙ ap (λ (k : ℕ). fill tr (opens-sent bits C (at-wire x) D E k)) (abort-reaches o m e) in (
+      let b : buffer 1 the-run ≡ fill tr T = RC.run-transcript f x t l outs tr st a ∙ ap (λ (k : ℕ). fill tr (opens-delivered bits C (at-wire x) D E k)) (abort-reaches o m e) in (
         ap (take (at-output C (suc o))) b ∙ take-at T _ (at-output C (suc o)) n,
         ap₂ drop (sym n) b ∙ fill-rest tr T ∙ ap (λ (k : ℕ). drop k tr) n,
       )
@@ -326,18 +324,73 @@ module _ (f x t y : List ℕ) (s : ℕ) (nt wr : List ℕ) where
       refused-13 f x t y s nt wr P e .unkept
       (view-keeps S K x y t u (k .in-x) (m .in-x) (k .in-t) (m .in-t) (sym (view-does f y u s v st c) ∙ h ∙ view-does f x t s v st b))
 
+  pub says-so : (v st : List ℕ) → Accepts (View f x t s v st) → Bits y (K .ins) → length nt ≡ tapes-want K → length wr ≡ 4 * wires K → ¬ Keeps S K x y
+      → (P : ℕ) × (does re-taping .answer ≡ refused 13 P)
+  says-so v st a by hn hw h =
+      let k = view-ok f x t s v st a in
+      unkept-refused f x t y s nt wr
+      (record { sound = k .sound; in-x = k .in-x; in-t = k .in-t; site = k .site; nt-long = hn; wr-long = hw; in-y = by }) h
+
+  pub keeps-them : Accepts re-taping → Keeps S K x y
+  keeps-them a = retape-ok f x t y s nt wr a .keeps
+
+-- View and run are one
+
+module _ (f x t l : List ℕ) (s : ℕ) (outs tr st v vst : List ℕ) (a : Accepts (Run f x t l outs tr st)) (b : Accepts (View f x t s v vst)) (h : Clean l) where
+  abbrev clean-run : Call
+  clean-run = Run f x t l outs tr st
+
+  pub view-store : buffer 1 (View f x t s v vst) ≡ buffer 2 clean-run
+  unfolding when-good
+  view-store =
+      ap (λ (z : After). getD (z .lent) 1 []) (accepts-does (View f x t s v vst) b)
+      ∙ ap (λ (e : Errors). store (after bits (circuit f) (at-wire x) (read (circuit f) t) e (circuit f .gates))) (sym (RC.clean-errors (circuit f) l h))
+      ∙ sym (RC.run-store f x t l outs tr st a)
+
+  same-transcript : transcript bits (circuit f) (at-wire x) (read (circuit f) t) no-errors ≡ buffer 1 clean-run
+  same-transcript =
+      VL.clean-transcript bit-group (site-of s) (circuit f) (at-wire x) (read (circuit f) t) (RC.bit-draws (read (circuit f) t))
+      ∙ clean-sent bit-group (circuit f) (at-wire x) (read (circuit f) t) (RC.bit-draws (read (circuit f) t)) (circuit f .outs)
+      ∙ sym (RC.clean-transcript f x t l outs tr st a h)
+
+  same-opened : (n : ℕ) → seen-outs bits (site-of s) (circuit f) (at-wire x) (read (circuit f) t) n ≡ plain-outs (circuit f) x n
+  unfolding seen-outs plain-outs
+  same-opened zero = refl
+  same-opened (suc o) =
+      ap₂ (λ (m : List ℕ) (z : ℕ). m ++ (z ∷ [])) (same-opened o)
+      (ap (λ (u : Trio ℕ). of u (site-of s)) (RC.opens-plain (circuit f) x t (run-ok f x t l outs tr st a .in-x .small) o)
+      ∙ VL.of-thrice (plain-out (circuit f) x o) (site-of s))
+
+  pub view-of-the-run : buffer 0 (View f x t s v vst)
+      ≡ own-ins (site-of s) (circuit f) (at-wire x) (circuit f .ins) ++ of (cut (circuit f) t) (site-of s)
+      ++ pick (site-of s) (routes (circuit f) (circuit f .outs)) (buffer 1 clean-run) ++ plain-outs (circuit f) x (circuit f .outs)
+  unfolding view-from
+  view-of-the-run =
+      view-does f x t s v vst b
+      ∙ ap₂ (λ (m n : List ℕ). own-ins (site-of s) (circuit f) (at-wire x) (circuit f .ins) ++ of (cut (circuit f) t) (site-of s)
+      ++ pick (site-of s) (routes (circuit f) (circuit f .outs)) m ++ n) same-transcript (same-opened (circuit f .outs))
+
+-- Listing
+
+pub listing-plain : (j : List ℕ) → Accepts (Listing j) → does (Listing j) .returned ≡ good-text (circuit (job-file j)) (plain-out (circuit (job-file j)) (job-inputs j)) ∷ []
+unfolding when-good
+listing-plain j a =
+    ap (λ (z : After). z .returned) (accepts-does (Listing j) a)
+    ∙ ap (λ (b : ℕ → ℕ). good-text (circuit (job-file j)) b ∷ [])
+    (fun-ext (λ o. ap (λ (u : Trio ℕ). u .at1) (RC.opens-plain (circuit (job-file j)) (job-inputs j) (job-tapes j) (listing-ok j a .in-x .small) o)))
+
 -- Traffic
 
 module _ (f : List ℕ) (a : Accepts (Traffic f)) where
-  table-is : does (Traffic f) .returned ≡ table (circuit f)
+  table-is : does (Traffic f) .returned ≡ traffic-table (circuit f)
   unfolding when-good
   table-is = ap (λ (z : After). z .returned) (accepts-does (Traffic f) a)
 
-  entry-is : (p q : Site) → entry-of (table (circuit f)) p q ≡ entry (circuit f) p q
-  unfolding table
-  entry-is s1 q = by-site (λ q. entry-of (table (circuit f)) s1 q ≡ entry (circuit f) s1 q) refl refl refl q
-  entry-is s2 q = by-site (λ q. entry-of (table (circuit f)) s2 q ≡ entry (circuit f) s2 q) refl refl refl q
-  entry-is s3 q = by-site (λ q. entry-of (table (circuit f)) s3 q ≡ entry (circuit f) s3 q) refl refl refl q
+  entry-is : (p q : Site) → entry-of (traffic-table (circuit f)) p q ≡ entry (circuit f) p q
+  unfolding traffic-table
+  entry-is s1 q = by-site (λ q. entry-of (traffic-table (circuit f)) s1 q ≡ entry (circuit f) s1 q) refl refl refl q
+  entry-is s2 q = by-site (λ q. entry-of (traffic-table (circuit f)) s2 q ≡ entry (circuit f) s2 q) refl refl refl q
+  entry-is s3 q = by-site (λ q. entry-of (traffic-table (circuit f)) s3 q ≡ entry (circuit f) s3 q) refl refl refl q
 
   in-table : (p q : Site) → entry-of (does (Traffic f) .returned) p q ≡ entry (circuit f) p q
   in-table p q = ap (λ (t : List (List ℕ)). entry-of t p q) table-is ∙ entry-is p q
@@ -353,7 +406,7 @@ module _ (f : List ℕ) (a : Accepts (Traffic f)) where
   traffic-diagonal p = in-table p p ∙ no-diagonal (circuit f) p
 
   pub traffic-total : add-up (does (Traffic f) .returned) ≡ 4 * circuit f .ins + 12 * all-ands (circuit f) + 3 * circuit f .outs
-  unfolding table add-up add-row table-total
+  unfolding traffic-table add-up add-row table-total
   traffic-total = ap add-up table-is ∙ (let h = table-total-is (circuit f) in omega arith)
 
   pub traffic-counts : (p q : Site) → count p q (routes (circuit f) (circuit f .outs)) ≡ entry-of (does (Traffic f) .returned) p q + comparing p q * circuit f .outs

@@ -1,6 +1,6 @@
 -- What a call answers, and what it leaves behind.
 --     Answer             good with its values, abort, refused
---     number, values     01's number and values for each case
+--     number-of, values-of    01's number and values for each case
 --     After              the answer, what is returned beside it, and everything that was lent as it is afterwards
 -- Where code answers by an enum, a definition beside it gives the Answer that each of its cases stands for, and promises go through that.
 use mathlib.Core.List.{List, [], _∷_}
@@ -12,15 +12,15 @@ pub data Answer : Type 0 where
   refused : ℕ → ℕ → Answer  -- "A refusal is a number and a place"
 
 -- Refusals have the numbers of 01's table. Good is 0 and abort is 100: no refusal's, now or later.
-unfoldable pub number : Answer → ℕ
-number (good vs) = 0
-number (abort o m) = 100
-number (refused n p) = n
+unfoldable pub number-of : Answer → ℕ
+number-of (good vs) = 0
+number-of (abort o m) = 100
+number-of (refused n p) = n
 
-unfoldable pub values : Answer → List ℕ
-values (good vs) = vs
-values (abort o m) = o ∷ m ∷ []
-values (refused n p) = p ∷ []
+unfoldable pub values-of : Answer → List ℕ
+values-of (good vs) = vs
+values-of (abort o m) = o ∷ m ∷ []
+values-of (refused n p) = p ∷ []
 
 -- returned: of a traffic call the table's rows, of a listing its text, else nothing. lent: the result buffers, by number.
 pub record After : Type 0 where

@@ -1,7 +1,7 @@
 -- The public calls, whole: what each is given and lent, in what order it checks, what it answers and leaves.
 --     Call           a call with all that it is given; a lent buffer stands with its bytes before the call
 --     given-of       the same, as the table of refusals reads it
---     order          the numbers that concern the call, in the order of its checks
+--     fixed-order    the one order of all checks;  concerns: the numbers that concern a call;  order: those, in that order
 --     lent-before    what is lent, as it was
 --     when-good      the answer and what is lent afterwards, where nothing is refused
 --     when-refused, returned-refused    what is lent afterwards, and returned, where refusal N is given
@@ -15,18 +15,19 @@ use lib.Dec.{eqb, ltb}
 use Rattle.sharing.specs.Ops.{bits}
 use Rattle.sharing.specs.Sites.{of}
 use Rattle.sharing.specs.Circuit.{Circuit, Draws, Errors, no-errors, wires, all-ands, all-owned}
-use Rattle.sharing.specs.Run.{after, stop, objects, transcript, outputs}
+use Rattle.sharing.specs.Run.{after, stop, objects, transcript, opened-at, outputs}
 use Rattle.sharing.specs.Tapes.{read}
 use Rattle.sharing.specs.Line.{errors}
 use Rattle.sharing.specs.Store.{side, store, fill}
 use Rattle.sharing.specs.Steps.{Wire}
 use Rattle.sharing.specs.View.{view-from}
 use Rattle.sharing.specs.Retape.{new-tapes}
-use Rattle.sharing.specs.Traffic.{table, no-table}
+use Rattle.sharing.specs.Traffic.{traffic-table, no-table}
 use Rattle.scope.specs.File.{le32, inputs-of, gates-of, outputs-of, kind-at, first-at, second-at, owner-at, output-at, site-of, circuit}
 use Rattle.scope.specs.Plain.{plain}
 use Rattle.scope.specs.Answer.{Answer, good, abort, refused, After}
 use Rattle.scope.specs.Checks.{Asked, whole, for-owner, for-gate, for-output, Given, tapes-want, line-want, Verdict, accepted, refuses, verdict}
+use Rattle.scope.specs.Refusal.{those-of}
 use Rattle.scope.specs.Listing.{good-text, refused-text}
 
 pub data Call : Type 0 where
@@ -72,7 +73,7 @@ retape-wants C = tapes-want C ∷ 4 * wires C ∷ []
 
 abbrev pub given : Asked → List ℕ → List ℕ → List ℕ → List ℕ → List ℕ → ℕ → List (List ℕ) → List ℕ → List ℕ → Given
 given a f x t l y s bufs wants j =
-    record { file = f; inputs = x; tapes = t; line = l; second = y; site = s; asked = a; lent = map length bufs; wanted = wants; job = j }
+    record { file = f; inputs = x; tapes = t; line = l; second = y; site = s; asked = a; sizes = map length bufs; wanted = wants; job = j }
 
 unfoldable pub given-of : Call → Given
 given-of (Open f) = given whole f [] [] [] [] 0 [] [] []
@@ -87,19 +88,26 @@ given-of (View f x t s v st) = given whole f x t [] [] s (v ∷ st ∷ []) (view
 given-of (Retape f x t y s nt wr) = given whole f x t [] y s (nt ∷ wr ∷ []) (retape-wants (circuit f)) []
 given-of (Listing j) = given whole (job-file j) (job-inputs j) (job-tapes j) [] [] 0 [] [] j
 
--- 01: "Checks go by rising number .. The exceptions are 14, which comes first, and 11, which comes just before 10"
+-- 01: "Checks go by rising number .. The exceptions are 14, which comes first, and 11, which comes just before 10": one order for all calls
+abbrev pub fixed-order : List ℕ
+fixed-order = 14 ∷ 1 ∷ 2 ∷ 3 ∷ 4 ∷ 5 ∷ 6 ∷ 7 ∷ 8 ∷ 9 ∷ 11 ∷ 10 ∷ 12 ∷ 13 ∷ []
+
+-- 01: "a call makes only those that concern it"
+unfoldable pub concerns : Call → List ℕ
+concerns (Open f) = 1 ∷ 2 ∷ 3 ∷ []
+concerns (GateAt f n) = 1 ∷ 2 ∷ 3 ∷ 5 ∷ []
+concerns (OwnerAt f n) = 1 ∷ 2 ∷ 3 ∷ 4 ∷ []
+concerns (OutputAt f n) = 1 ∷ 2 ∷ 3 ∷ 6 ∷ []
+concerns (Check f) = 1 ∷ 2 ∷ 3 ∷ 4 ∷ 5 ∷ 6 ∷ []
+concerns (Traffic f) = 1 ∷ 2 ∷ 3 ∷ 4 ∷ 5 ∷ 6 ∷ []
+concerns (Plain f x vs) = 1 ∷ 2 ∷ 3 ∷ 4 ∷ 5 ∷ 6 ∷ 7 ∷ 10 ∷ []
+concerns (Run f x t l outs tr st) = 1 ∷ 2 ∷ 3 ∷ 4 ∷ 5 ∷ 6 ∷ 7 ∷ 8 ∷ 9 ∷ 10 ∷ []
+concerns (View f x t s v st) = 1 ∷ 2 ∷ 3 ∷ 4 ∷ 5 ∷ 6 ∷ 7 ∷ 8 ∷ 10 ∷ 11 ∷ []
+concerns (Retape f x t y s nt wr) = 1 ∷ 2 ∷ 3 ∷ 4 ∷ 5 ∷ 6 ∷ 7 ∷ 8 ∷ 10 ∷ 11 ∷ 12 ∷ 13 ∷ []
+concerns (Listing j) = 1 ∷ 2 ∷ 3 ∷ 4 ∷ 5 ∷ 6 ∷ 7 ∷ 8 ∷ 14 ∷ []
+
 unfoldable pub order : Call → List ℕ
-order (Open f) = 1 ∷ 2 ∷ 3 ∷ []
-order (GateAt f n) = 1 ∷ 2 ∷ 3 ∷ 5 ∷ []
-order (OwnerAt f n) = 1 ∷ 2 ∷ 3 ∷ 4 ∷ []
-order (OutputAt f n) = 1 ∷ 2 ∷ 3 ∷ 6 ∷ []
-order (Check f) = 1 ∷ 2 ∷ 3 ∷ 4 ∷ 5 ∷ 6 ∷ []
-order (Traffic f) = 1 ∷ 2 ∷ 3 ∷ 4 ∷ 5 ∷ 6 ∷ []
-order (Plain f x vs) = 1 ∷ 2 ∷ 3 ∷ 4 ∷ 5 ∷ 6 ∷ 7 ∷ 10 ∷ []
-order (Run f x t l outs tr st) = 1 ∷ 2 ∷ 3 ∷ 4 ∷ 5 ∷ 6 ∷ 7 ∷ 8 ∷ 9 ∷ 10 ∷ []
-order (View f x t s v st) = 1 ∷ 2 ∷ 3 ∷ 4 ∷ 5 ∷ 6 ∷ 7 ∷ 8 ∷ 11 ∷ 10 ∷ []
-order (Retape f x t y s nt wr) = 1 ∷ 2 ∷ 3 ∷ 4 ∷ 5 ∷ 6 ∷ 7 ∷ 8 ∷ 11 ∷ 10 ∷ 12 ∷ 13 ∷ []
-order (Listing j) = 14 ∷ 1 ∷ 2 ∷ 3 ∷ 4 ∷ 5 ∷ 6 ∷ 7 ∷ 8 ∷ []
+order c = those-of (concerns c) fixed-order
 
 unfoldable pub lent-before : Call → List (List ℕ)
 lent-before (Open f) = []
@@ -149,7 +157,7 @@ when-good (GateAt f n) = let i = inputs-of f in answers (good (kind-at f i n ∷
 when-good (OwnerAt f n) = answers (good (owner-at f n ∷ []))
 when-good (OutputAt f n) = answers (good (output-at f (inputs-of f) (gates-of f) n ∷ []))
 when-good (Check f) = answers (counts f)
-when-good (Traffic f) = record { answer = good []; returned = table (circuit f); lent = [] }
+when-good (Traffic f) = record { answer = good []; returned = traffic-table (circuit f); lent = [] }
 when-good (Plain f x vs) = fills (plain (circuit f) x ∷ [])
 when-good (Run f x t l outs tr st) = let C = circuit f in ran C (at-wire x) (read C t) (errors C l) outs tr
 when-good (View f x t s v st) =
@@ -158,24 +166,29 @@ when-good (View f x t s v st) =
 when-good (Retape f x t y s nt wr) =
     let C = circuit f in
     fills (new-tapes bits (site-of s) C (at-wire x) (at-wire y) t ∷ work-room C x t y s ∷ [])
+-- all sites open the same bit on a clean line, so the listing shows site 1's
 when-good (Listing j) =
     let C = circuit (job-file j) in
-    record { answer = good []; returned = good-text C (at-wire (job-inputs j)) (read C (job-tapes j)) ∷ []; lent = [] }
+    let shown : ℕ → ℕ = λ o. opened-at bits C (at-wire (job-inputs j)) (read C (job-tapes j)) no-errors o .at1 in
+    record { answer = good []; returned = good-text C shown ∷ []; lent = [] }
 
--- 01: "A refusal changes no buffer, but 13 leaves the first 2W bytes of the work room filled with both sets of plain values, and its last
--- 2W unchanged."
+-- 01: ".. but 13 leaves the first 2W bytes of the work room filled with both sets of plain values, and its last 2W unchanged."
+unfoldable pub lent-at-13 : Call → List (List ℕ)
+lent-at-13 (Retape f x t y s nt wr) = nt ∷ fill wr (both-plain (circuit f) x y) ∷ []
+lent-at-13 (Open f) = lent-before (Open f)
+lent-at-13 (GateAt f k) = lent-before (GateAt f k)
+lent-at-13 (OwnerAt f k) = lent-before (OwnerAt f k)
+lent-at-13 (OutputAt f k) = lent-before (OutputAt f k)
+lent-at-13 (Check f) = lent-before (Check f)
+lent-at-13 (Traffic f) = lent-before (Traffic f)
+lent-at-13 (Plain f x vs) = lent-before (Plain f x vs)
+lent-at-13 (Run f x t l outs tr st) = lent-before (Run f x t l outs tr st)
+lent-at-13 (View f x t s v st) = lent-before (View f x t s v st)
+lent-at-13 (Listing j) = lent-before (Listing j)
+
+-- 01: "A refusal changes no buffer, but 13 .."
 unfoldable pub when-refused : Call → ℕ → List (List ℕ)
-when-refused (Retape f x t y s nt wr) n = nt ∷ cond (eqb n 13) (fill wr (both-plain (circuit f) x y)) wr ∷ []
-when-refused (Open f) n = []
-when-refused (GateAt f k) n = []
-when-refused (OwnerAt f k) n = []
-when-refused (OutputAt f k) n = []
-when-refused (Check f) n = []
-when-refused (Traffic f) n = []
-when-refused (Plain f x vs) n = vs ∷ []
-when-refused (Run f x t l outs tr st) n = outs ∷ tr ∷ st ∷ []
-when-refused (View f x t s v st) n = v ∷ st ∷ []
-when-refused (Listing j) n = []
+when-refused c n = cond (eqb n 13) (lent-at-13 c) (lent-before c)
 
 -- 01: "With a refusal the table is all zeros." "A refusal prints only `refused N P`, number and place."
 unfoldable pub returned-refused : Call → ℕ → ℕ → List (List ℕ)

@@ -3,7 +3,7 @@
 --     Row              one line of the table: its places are those below span, and bad p says that its condition holds at place p
 --     at-places        a row with few places, each with its test
 --     bits-row         "wrong length, else a byte above 1 | wanted length, else index"
---     table, row       the table; line N of it
+--     refusal-table, row    the table; line N of it
 --     Holds g N P      the condition of refusal N holds at place P
 --     Verdict, verdict the first refusal in an order, or none
 -- Tests are written the good way round, and negated: a limit reads as the document says it.
@@ -24,7 +24,7 @@ pub data Asked : Type 0 where
   whole : Asked
   for-owner for-gate for-output : ℕ → Asked
 
--- lent: how long the result buffers are, by number; wanted: how long they should be. What a call is not given is empty, and not tested.
+-- sizes: how long the result buffers are, by number; wanted: how long they should be. What a call is not given is empty, and not tested.
 pub record Given : Type 0 where
   pub file : List ℕ
   pub inputs : List ℕ
@@ -33,7 +33,7 @@ pub record Given : Type 0 where
   pub second : List ℕ
   pub site : ℕ
   pub asked : Asked
-  pub lent : List ℕ
+  pub sizes : List ℕ
   pub wanted : List ℕ
   pub job : List ℕ
 
@@ -79,12 +79,12 @@ abbrev pub row-asked : ℕ → ℕ → Row
 row-asked n count = at-places (suc count) ((count, not (ltb n count)) ∷ [])
 
 -- 4: "an owner not 1 to 3 | input number"
-abbrev pub good-owner : ℕ → Bool
-good-owner o = leb 1 o && leb o 3
+abbrev pub one-to-three : ℕ → Bool
+one-to-three o = leb 1 o && leb o 3
 
 unfoldable pub row-owner : Asked → List ℕ → Row
 row-owner (for-owner n) f = row-asked n (inputs-of f)
-row-owner whole f = record { span = inputs-of f; bad = λ k. not (good-owner (owner-at f k)) }
+row-owner whole f = record { span = inputs-of f; bad = λ k. not (one-to-three (owner-at f k)) }
 row-owner (for-gate n) f = no-row
 row-owner (for-output n) f = no-row
 
@@ -122,11 +122,11 @@ line-want C = 4 * C .ins + 12 * all-ands C + 6 * C .outs
 
 -- 10: "a result buffer not exactly its length | buffer number"
 abbrev pub row-buffer : Given → Row
-row-buffer g = record { span = length (g .wanted); bad = λ p. not (eqb (getD (g .lent) p 0) (getD (g .wanted) p 0)) }
+row-buffer g = record { span = length (g .wanted); bad = λ p. not (eqb (getD (g .sizes) p 0) (getD (g .wanted) p 0)) }
 
 -- 11: "site not 1 to 3 | 0"
 abbrev pub row-site : Given → Row
-row-site g = at-places 1 ((0, not (good-owner (g .site))) ∷ [])
+row-site g = at-places 1 ((0, not (one-to-three (g .site))) ∷ [])
 
 -- 13: "re-taping: an own input differs, else an opened bit differs | input wire, else I + output number"
 abbrev pub row-differs : Given → Row
@@ -152,8 +152,8 @@ row-job g =
     ∷ (12, not (leb (le32 j 8) (le32 j 12) && leb (le32 j 12) n)) ∷ [])
 
 -- the table, from number 1 on; there is no number 0
-unfoldable pub table : Given → List Row
-table g =
+unfoldable pub refusal-table : Given → List Row
+refusal-table g =
     no-row
     ∷ row-short g
     ∷ row-large g
@@ -172,7 +172,7 @@ table g =
     ∷ []
 
 unfoldable pub row : Given → ℕ → Row
-row g n = getD (table g) n no-row
+row g n = getD (refusal-table g) n no-row
 
 unfoldable pub Holds : Given → ℕ → ℕ → Type 0
 Holds g n p = (p < row g n .span) × (row g n .bad p ≡ true)

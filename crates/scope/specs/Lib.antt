@@ -3,7 +3,7 @@ pub mod File
 pub mod Plain
 pub mod Answer
 pub mod Checks
-pub mod Order
+pub mod Refusal
 pub mod Listing
 pub mod Calls
 pub mod Statements

@@ -7,9 +7,7 @@ use mathlib.Core.Bool.{cond}
 use mathlib.Core.List.{List, [], _∷_, _++_}
 use Prim.Native.Nat.{ℕ, zero, suc, _+_, _/_, _%_}
 use lib.Dec.{leb}
-use Rattle.sharing.specs.Ops.{bits}
-use Rattle.sharing.specs.Circuit.{Circuit, Draws, no-errors}
-use Rattle.sharing.specs.Run.{opened-at}
+use Rattle.sharing.specs.Circuit.{Circuit}
 use Rattle.sharing.specs.Traffic.{table-total}
 
 -- the digits of n, at most k + 1 of them
@@ -54,16 +52,17 @@ space = 32 ∷ []
 abbrev pub LF : List ℕ
 LF = 10 ∷ []
 
--- "out 0 1": all sites open the same bit on a clean line, so site 1's is shown
-unfoldable pub out-lines : Circuit → (ℕ → ℕ) → Draws → ℕ → List ℕ
-out-lines C x T zero = []
-out-lines C x T (suc o) = out-lines C x T o ++ (word-out ++ decimal o ++ space ++ decimal (opened-at bits C x T no-errors o .at1) ++ LF)
+-- "out 0 1": "one line per output, its number and bit"
+unfoldable pub out-lines : (ℕ → ℕ) → ℕ → List ℕ
+out-lines shown zero = []
+out-lines shown (suc o) = out-lines shown o ++ (word-out ++ decimal o ++ space ++ decimal (shown o) ++ LF)
 
-unfoldable pub good-text : Circuit → (ℕ → ℕ) → Draws → List ℕ
-good-text C x T =
+-- of a circuit, and the bit shown for each output
+unfoldable pub good-text : Circuit → (ℕ → ℕ) → List ℕ
+good-text C shown =
     word-inputs ++ decimal (C .ins) ++ word-gates ++ decimal (C .gates) ++ word-outputs ++ decimal (C .outs) ++ LF
     ++ word-bits ++ decimal (table-total C) ++ LF
-    ++ out-lines C x T (C .outs)
+    ++ out-lines shown (C .outs)
     ++ word-end ++ LF
 
 unfoldable pub refused-text : ℕ → ℕ → List ℕ

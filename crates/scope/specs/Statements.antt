@@ -1,15 +1,17 @@
 -- Words of the demands that are no part of a call: what the theorems about whole calls speak of.
+--     Bits              a slice of the wanted length, each byte 0 or 1
 --     Clean             "an undisturbed line"
 --     copies-of         the two copies that a site gets at an output, in a run on a line
 --     Alike             at an output every site gets the same bit twice
 --     StopsAt           "the first output where some site gets two unlike copies"
---     opened-plain      each output's plain value, three times
---     add-up            the sum of all entries of a table
---     entry-of          the entry of a table for a sender and a receiver
+--     Keeps             "other inputs to the same circuit that keep that site's own bits and all opened bits"
+--     opened-plain      each output's plain value, three times;  plain-outs: once
+--     add-row, add-up   the sum of all entries of a table
+--     place-of          where a site stands in a table;  entry-of: the entry of a table for a sender and a receiver
 use mathlib.Core.Path.{_≡_}
 use mathlib.Core.List.{List, [], _∷_, _++_}
 use Prim.Native.Nat.{ℕ, zero, suc, _+_, _<_}
-use lib.ListN.{getD}
+use lib.ListN.{length, getD}
 use Rattle.sharing.specs.Ops.{bits}
 use Rattle.sharing.specs.Sites.{Site, s1, s2, s3, of}
 use Rattle.sharing.specs.Circuit.{Circuit}
@@ -20,6 +22,11 @@ use Rattle.sharing.specs.Line.{errors}
 use Rattle.scope.specs.File.{circuit}
 use Rattle.scope.specs.Plain.{plain-out}
 use Rattle.scope.specs.Calls.{at-wire}
+
+-- a slice of the wanted length, each byte 0 or 1
+pub record Bits (l : List ℕ) (want : ℕ) : Type 0 where
+  pub long : length l ≡ want
+  pub small : (k : ℕ) → getD l k 0 < 2
 
 unfoldable pub Clean : List ℕ → Type 0
 Clean l = (k : ℕ) → getD l k 0 ≡ 0
@@ -36,10 +43,20 @@ pub record StopsAt (f x t l : List ℕ) (o : ℕ) : Type 0 where
   pub unlike : ¬ Alike f x t l o
   pub before : (p : ℕ) → p < o → Alike f x t l p
 
+-- 00: "other inputs to the same circuit that keep that site's own bits and all opened bits"
+pub record Keeps (s : Site) (C : Circuit) (x y : List ℕ) : Type 0 where
+  pub own : (i : ℕ) → i < C .ins → C .owner i ≡ s → getD y i 0 ≡ getD x i 0
+  pub opens : (o : ℕ) → o < C .outs → plain-out C y o ≡ plain-out C x o
+
 -- 00: "opens at all three sites to its plain Boolean value"
 unfoldable pub opened-plain : Circuit → List ℕ → ℕ → List ℕ
 opened-plain C x zero = []
 opened-plain C x (suc o) = opened-plain C x o ++ (plain-out C x o ∷ plain-out C x o ∷ plain-out C x o ∷ [])
+
+-- each output's plain value
+unfoldable pub plain-outs : Circuit → List ℕ → ℕ → List ℕ
+plain-outs C x zero = []
+plain-outs C x (suc o) = plain-outs C x o ++ (plain-out C x o ∷ [])
 
 unfoldable pub add-row : List ℕ → ℕ
 add-row [] = 0

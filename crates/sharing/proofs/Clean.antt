@@ -16,8 +16,8 @@ use Rattle.sharing.specs.Circuit.{Gate, XOR, AND, OR, NOT, Circuit, Draw
 use Rattle.sharing.specs.Values.{values}
 use Rattle.sharing.specs.Order.{if-deals}
 use Rattle.sharing.specs.Published.{Parts, no-parts, Deal, deal, dealt, deal-bits, open-bits, total, share, add-parts, flip-parts, mul-parts, gate-parts, left, right, product-of, gate-deal, ins-parts, parts, out-parts, ins-bits, gates-bits, sent-bits}
-use Rattle.sharing.specs.Steps.{Pair, Wire, no-wire, hold, kept, to-next, to-last, sent, in-wire, add-pair, add-wire, flip, local, deals, sent3, mix, mul-wire, gate-wire, gate-sent, unlike, objecting, copies, six, opened}
-use Rattle.sharing.specs.Run.{ins-after, after, ins-sent, gates-sent, output, out-sent, copies-at, objects, opens-sent, opened-at, outputs}
+use Rattle.sharing.specs.Steps.{Pair, Wire, no-wire, hold, kept, to-next, to-prev, delivered, in-wire, add-pair, add-wire, flip, local, deals, delivered3, mix, mul-wire, gate-wire, gate-delivered, unlike, objecting, copies, six, opened}
+use Rattle.sharing.specs.Run.{ins-after, after, ins-delivered, gates-delivered, output, out-delivered, copies-at, objects, opens-delivered, opened-at, outputs}
 use Rattle.sharing.proofs.Group.{Group, sums, assoc, comm, left-comm, turn}
 use Rattle.sharing.proofs.Parts.{map-snoc, AllDraws, Each, parts-ok, total-at}
 
@@ -71,8 +71,8 @@ module _ (G : Group) where
   four : {a b c d a′ b′ c′ d′ : ℕ} → a ≡ a′ → b ≡ b′ → c ≡ c′ → d ≡ d′ → _≡_ {A = List ℕ} (a ∷ b ∷ c ∷ d ∷ []) (a′ ∷ b′ ∷ c′ ∷ d′ ∷ [])
   four p q r s = λ i. p i ∷ q i ∷ r i ∷ s i ∷ []
 
-  sent-clean : (D : Deal) → OkDeal D → sent R none D ≡ deal-bits D
-  unfolding sent
+  sent-clean : (D : Deal) → OkDeal D → delivered R none D ≡ deal-bits D
+  unfolding delivered
   sent-clean D h = four (add-zero _ (h .ok-d1)) (add-zero _ (h .ok-d2)) (add-zero _ (h .ok-d2)) (add-zero _ (h .ok-r))
 
   module _ (a b : Site → ℕ) (oka : (s : Site) → Ok (a s)) (okb : (s : Site) → Ok (b s)) where
@@ -88,21 +88,21 @@ module _ (G : Group) where
     gate-clean (OR i j) ps = ap (flip R) (ap₂ (λ x y. mul-wire R none a b (flip R x) (flip R y)) (look-hold ps i) (look-hold ps j) ∙ mul-clean (flip-parts R (getD ps i no-parts)) (flip-parts R (getD ps j no-parts)))
     gate-clean (NOT i) ps = ap (flip R) (look-hold ps i)
 
-    three-clean : (P Q : Parts) → sent3 R none (deals R a b (hold P) (hold Q))
+    three-clean : (P Q : Parts) → delivered3 R none (deals R a b (hold P) (hold Q))
         ≡ deal-bits ((deals R a b (hold P) (hold Q)) .at1) ++ deal-bits ((deals R a b (hold P) (hold Q)) .at2) ++ deal-bits ((deals R a b (hold P) (hold Q)) .at3)
-    unfolding sent3
+    unfolding delivered3
     three-clean P Q =
         ap₂ _++_ (ap₂ _++_ (sent-clean _ (deal-ok _ _ _ (oka s1) (okb s1))) (sent-clean _ (deal-ok _ _ _ (oka s2) (okb s2)))) (sent-clean _ (deal-ok _ _ _ (oka s3) (okb s3)))
 
-    gate-sent-clean : (k : Gate) (ps : List Parts) → gate-sent R none a b k (map hold ps)
+    gate-delivered-clean : (k : Gate) (ps : List Parts) → gate-delivered R none a b k (map hold ps)
         ≡ if-deals k (deal-bits (deal R (product-of R s1 k ps) (a s1) (b s1)) ++ deal-bits (deal R (product-of R s2 k ps) (a s2) (b s2)) ++ deal-bits (deal R (product-of R s3 k ps) (a s3) (b s3)))
-    unfolding gate-sent if-deals left right
-    gate-sent-clean (XOR i j) ps = refl
-    gate-sent-clean (AND i j) ps = ap₂ (λ x y. sent3 R none (deals R a b x y)) (look-hold ps i) (look-hold ps j) ∙ three-clean (getD ps i no-parts) (getD ps j no-parts)
-    gate-sent-clean (OR i j) ps =
-        ap₂ (λ x y. sent3 R none (deals R a b (flip R x) (flip R y))) (look-hold ps i) (look-hold ps j)
+    unfolding gate-delivered if-deals left right
+    gate-delivered-clean (XOR i j) ps = refl
+    gate-delivered-clean (AND i j) ps = ap₂ (λ x y. delivered3 R none (deals R a b x y)) (look-hold ps i) (look-hold ps j) ∙ three-clean (getD ps i no-parts) (getD ps j no-parts)
+    gate-delivered-clean (OR i j) ps =
+        ap₂ (λ x y. delivered3 R none (deals R a b (flip R x) (flip R y))) (look-hold ps i) (look-hold ps j)
         ∙ three-clean (flip-parts R (getD ps i no-parts)) (flip-parts R (getD ps j no-parts))
-    gate-sent-clean (NOT i) ps = refl
+    gate-delivered-clean (NOT i) ps = refl
 
   six-clean : (P : Parts) → Each Ok P → six R none (hold P) ≡ open-bits P
   unfolding six
@@ -142,29 +142,29 @@ module _ (G : Group) where
     unfolding output
     output-held o = ap (λ l. getD l (C .out o) no-wire) (held (C .gates)) ∙ look-hold (parts R C x T (C .gates)) (C .out o)
 
-    out-clean : (o : ℕ) → out-sent R C x T no-errors o ≡ open-bits (out-parts R C x T o)
-    unfolding out-sent
+    out-clean : (o : ℕ) → out-delivered R C x T no-errors o ≡ open-bits (out-parts R C x T o)
+    unfolding out-delivered
     out-clean o = ap (six R none) (output-held o) ∙ six-clean (out-parts R C x T o) (parts-ok G C x T ok (C .gates) (C .out o))
 
     pub no-objection : (o : ℕ) → objects R C x T no-errors o ≡ 0
     unfolding objects
     no-objection o = rw (out-clean o) (objecting-clean (out-parts R C x T o))
 
-    ins-clean : (i : ℕ) → ins-sent R C x T no-errors i ≡ ins-bits R C x T i
-    unfolding ins-sent ins-bits
+    ins-clean : (i : ℕ) → ins-delivered R C x T no-errors i ≡ ins-bits R C x T i
+    unfolding ins-delivered ins-bits
     ins-clean zero = refl
     ins-clean (suc i) = ap₂ _++_ (ins-clean i) (sent-clean _ (deal-ok (x i) _ _ (ok .of-in1 i) (ok .of-in2 i)))
 
-    gates-clean : (g : ℕ) → gates-sent R C x T no-errors g ≡ gates-bits R C x T g
-    unfolding gates-sent gates-bits
+    gates-clean : (g : ℕ) → gates-delivered R C x T no-errors g ≡ gates-bits R C x T g
+    unfolding gates-delivered gates-bits
     gates-clean zero = ins-clean (C .ins)
     gates-clean (suc g) =
         ap₂ _++_ (gates-clean g)
-        (ap (λ l. gate-sent R none (T .g1 g) (T .g2 g) (C .gate g) l) (held g)
-        ∙ gate-sent-clean (T .g1 g) (T .g2 g) (ok .of-g1 g) (ok .of-g2 g) (C .gate g) (parts R C x T g))
+        (ap (λ l. gate-delivered R none (T .g1 g) (T .g2 g) (C .gate g) l) (held g)
+        ∙ gate-delivered-clean (T .g1 g) (T .g2 g) (ok .of-g1 g) (ok .of-g2 g) (C .gate g) (parts R C x T g))
 
-    pub clean-sent : (n : ℕ) → opens-sent R C x T no-errors n ≡ sent-bits R C x T n
-    unfolding opens-sent sent-bits
+    pub clean-sent : (n : ℕ) → opens-delivered R C x T no-errors n ≡ sent-bits R C x T n
+    unfolding opens-delivered sent-bits
     clean-sent zero = gates-clean (C .gates)
     clean-sent (suc o) = ap₂ _++_ (clean-sent o) (out-clean o)
 

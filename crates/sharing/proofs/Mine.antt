@@ -16,7 +16,7 @@ use Rattle.sharing.specs.Circuit.{Gate, XOR, AND, OR, NOT, Circuit, Draw
 use Rattle.sharing.specs.Values.{values}
 use Rattle.sharing.specs.Published.{Parts, no-parts, total, share, add-parts, flip-parts, three, mul-parts, gate-parts, ins-parts, parts}
 use Rattle.sharing.specs.Steps.{Pair, add-pair, local}
-use Rattle.sharing.specs.Retape.{mine, rest, next-product, flip-mine, behind-product, shift, retape}
+use Rattle.sharing.specs.Retape.{mine, rest, next-product, flip-mine, next-shares, shift, retape}
 use Rattle.sharing.proofs.Group.{Group, sums, assoc, comm, left-comm, turn, move, third-part}
 use Rattle.sharing.proofs.SiteLaws.{Seen, itself, behind, before, seen, by-site}
 use Rattle.sharing.proofs.Parts.{map-snoc, value, look, flip-total, AllDraws, Each, AllParts, flip-ok, parts-ok}
@@ -129,11 +129,11 @@ module _ (G : Group) where
 
   module _ (s : Site) (a b : Site → ℕ) (k : Gate) (ms : List Pair) (vs vs′ : List ℕ) where
     moved : Site → ℕ
-    moved t = shift R s t (a t) (sub (behind-product R s k ms vs′) (behind-product R s k ms vs))
+    moved t = shift R s t (a t) (sub (next-shares R s k ms vs′) (next-shares R s k ms vs))
 
   gate-same : (s : Site) (a b : Site → ℕ) (k : Gate) (ms : List Pair) (vs vs′ : List ℕ)
       → gate-mine s (moved s a b k ms vs vs′) b k ms vs′ ≡ gate-mine s a b k ms vs
-  unfolding gate-mine moved behind-product
+  unfolding gate-mine moved next-shares
   gate-same s a b (XOR i j) ms vs vs′ = refl
   gate-same s a b (AND i j) ms vs vs′ =
       product-same s a _ b (getD ms i (0, 0)) (getD ms j (0, 0)) (getD vs i 0) (getD vs j 0) (getD vs′ i 0) (getD vs′ j 0)

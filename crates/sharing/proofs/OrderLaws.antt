@@ -1,8 +1,9 @@
 -- The routes of a run, and what of its bits reaches a site.
 --     routes-length    a route for each bit: 4I + 12A + 6n
 --     pick-all         of the published bits, those that reach s are what the line brings to it
---     delivered        the same of the run's own transcript on a clean line
+--     reaches        the same of the run's own transcript on a clean line
 --     copies-reach     the two copies that a site gets at an opening are those of the six bits that reach it
+--     next-takes, prev-takes, mix-takes    what a site takes from a deal is what of the delivered bits reaches it, on any line
 --     got-length       a site gets 2 bits of every other's input, 4 of every AND and OR, 2 of every opening
 -- Assumes nothing.
 use mathlib.Core.Path.{_≡_, refl, sym, ap, ap₂, _∙_}
@@ -12,16 +13,16 @@ use Prim.Native.Nat.{ℕ, zero, suc, _+_, _*_}
 use native.Mathlib.Omega.{arith}
 use lib.ListN.{length, length-append}
 use Rattle.sharing.specs.Ops.{Ops}
-use Rattle.sharing.specs.Sites.{Site, s1, s2, s3, next, prev, is, if-own, of}
+use Rattle.sharing.specs.Sites.{Site, s1, s2, s3, next, prev, is, if-own, Trio, of}
 use Rattle.sharing.specs.Circuit.{Gate, XOR, AND, OR, NOT, Circuit, Draws, no-errors, dealing, ands, owned, all-ands, all-owned}
 use Rattle.sharing.specs.Order.{Route, deal-routes, gate-routes, open-routes, if-deals, ins-routes, gates-routes, routes, pick}
 use Rattle.sharing.specs.Published.{Parts, Deal, deal, dealt, deal-bits, open-bits, share, product-of, parts, out-parts, gate-deal, ins-bits, gates-bits, sent-bits}
-use Rattle.sharing.specs.Steps.{copies}
+use Rattle.sharing.specs.Steps.{Pair, copies, later, delivered, delivered3, to-next, to-prev}
 use Rattle.sharing.specs.Retape.{mine}
-use Rattle.sharing.specs.Run.{opens-sent}
+use Rattle.sharing.specs.Run.{opens-delivered}
 use Rattle.sharing.specs.Line.{at-gate, at-output}
 use Rattle.sharing.proofs.Group.{Group}
-use Rattle.sharing.proofs.SiteLaws.{Seen, itself, behind, before, seen, is-itself, is-behind, is-before}
+use Rattle.sharing.proofs.SiteLaws.{by-site, Seen, itself, behind, before, seen, is-itself, is-behind, is-before}
 use Rattle.sharing.proofs.Parts.{AllDraws}
 use Rattle.sharing.proofs.Clean.{clean-sent}
 use Rattle.sharing.proofs.TapeLaws.{deals-many}
@@ -121,9 +122,9 @@ module _ (R : Ops) (s : Site) (C : Circuit) (x : ℕ → ℕ) (T : Draws) where
       pick-append s (routes C o) _ (sent-bits R C x T o) _ (routes-length C o ∙ sym (bits-length o)) ∙ ap₂ _++_ (pick-all o) (pick-open s _)
 
 -- on a clean line, what of the run's own bits reaches s
-pub delivered : (G : Group) (s : Site) (C : Circuit) (x : ℕ → ℕ) (T : Draws) (ok : AllDraws (G .Ok) T) (n : ℕ)
-    → pick s (routes C n) (opens-sent (G .ops) C x T no-errors n) ≡ all-got (G .ops) s C x T n
-delivered G s C x T ok n = ap (pick s (routes C n)) (clean-sent G C x T ok n) ∙ pick-all (G .ops) s C x T n
+pub reaches : (G : Group) (s : Site) (C : Circuit) (x : ℕ → ℕ) (T : Draws) (ok : AllDraws (G .Ok) T) (n : ℕ)
+    → pick s (routes C n) (opens-delivered (G .ops) C x T no-errors n) ≡ all-got (G .ops) s C x T n
+reaches G s C x T ok n = ap (pick s (routes C n)) (clean-sent G C x T ok n) ∙ pick-all (G .ops) s C x T n
 
 -- the two copies that a site gets at an opening are the bits of the six that reach it
 pub copies-reach : (s : Site) (a b c d e f : ℕ) → let l : List ℕ = a ∷ b ∷ c ∷ d ∷ e ∷ f ∷ [] in pick s open-routes l ≡ of (copies l) s .0 ∷ of (copies l) s .1 ∷ []
@@ -131,6 +132,27 @@ unfolding pick if-own is copies
 copies-reach s1 a b c d e f = refl
 copies-reach s2 a b c d e f = refl
 copies-reach s3 a b c d e f = refl
+
+-- "All sites use delivered bits": what a site takes from a deal is what of the delivered bits reaches it, on any line
+abbrev pub two-of : Pair → List ℕ
+two-of p = p .0 ∷ p .1 ∷ []
+
+module _ (R : Ops) (e : ℕ → ℕ) where
+  pub next-takes : (D : Deal) (s : Site) → pick (next s) (deal-routes s) (delivered R e D) ≡ two-of (to-next R e D)
+  unfolding pick if-own is delivered
+  next-takes D = by-site (λ s. pick (next s) (deal-routes s) (delivered R e D) ≡ two-of (to-next R e D)) refl refl refl
+
+  pub prev-takes : (D : Deal) (s : Site) → pick (prev s) (deal-routes s) (delivered R e D) ≡ two-of (to-prev R e D)
+  unfolding pick if-own is delivered
+  prev-takes D = by-site (λ s. pick (prev s) (deal-routes s) (delivered R e D) ≡ two-of (to-prev R e D)) refl refl refl
+
+  -- and of a gate's twelve bits: the site's own pair, and the two pairs that reach it, are what mix adds
+  pub mix-takes : (D : Trio Deal)
+      → (pick s1 gate-routes (delivered3 R e D) ≡ two-of (to-prev R (later e 4) (D .at2)) ++ two-of (to-next R (later e 8) (D .at3)))
+      × (pick s2 gate-routes (delivered3 R e D) ≡ two-of (to-next R e (D .at1)) ++ two-of (to-prev R (later e 8) (D .at3)))
+      × (pick s3 gate-routes (delivered3 R e D) ≡ two-of (to-prev R e (D .at1)) ++ two-of (to-next R (later e 4) (D .at2)))
+  unfolding pick if-own is delivered delivered3
+  mix-takes D = (refl, refl, refl)
 
 -- lengths
 got-two : (s t : Site) → Seen s t → (p : ℕ × ℕ) → length (got s t p) + 2 * cond (is s t) 1 0 ≡ 2

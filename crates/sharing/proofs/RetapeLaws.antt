@@ -1,5 +1,5 @@
 -- Re-taping on tapes as they are lent.
---     Alike            inputs that keep a site's own values and all opened ones
+--     Kept            inputs that keep a site's own values and all opened ones
 --     same-view        with the new tapes and the second inputs the site sees the same
 --     only-these       no other tapes of the right length do it
 --     there-and-back   going back returns the first tapes
@@ -19,7 +19,7 @@ use Rattle.sharing.specs.Published.{Parts, no-parts, parts}
 use Rattle.sharing.specs.Steps.{Pair}
 use Rattle.sharing.specs.Tapes.{read, written, tape}
 use Rattle.sharing.specs.View.{view-from}
-use Rattle.sharing.specs.Retape.{mine, rest, next-product, flip-mine, behind-product, shift, retape, new-tapes}
+use Rattle.sharing.specs.Retape.{mine, rest, next-product, flip-mine, next-shares, shift, retape, new-tapes}
 use Rattle.sharing.proofs.Group.{Group, Closed}
 use Rattle.sharing.proofs.Parts.{AllDraws, Each, AllParts, parts-in, values-in, three-in}
 use Rattle.sharing.proofs.Mine.{retape-ok, look-mine}
@@ -33,16 +33,16 @@ use Rattle.sharing.proofs.ViewLaws.{view-is, Shown, shown}
 module _ (G : Group) (s : Site) (C : Circuit) where
   open Group G using (ops as R, Ok, ok-zero)
 
-  pub record Alike (x y : ℕ → ℕ) : Type 0 where
+  pub record Kept (x y : ℕ → ℕ) : Type 0 where
     pub ok-x : (i : ℕ) → Ok (x i)
     pub ok-y : (i : ℕ) → Ok (y i)
     pub own : (i : ℕ) → C .owner i ≡ s → y i ≡ x i
     pub opens : (o : ℕ) → o < C .outs → getD (values R C y (C .gates)) (C .out o) 0 ≡ getD (values R C x (C .gates)) (C .out o) 0
 
-  pub back : {x y : ℕ → ℕ} → Alike x y → Alike y x
+  pub back : {x y : ℕ → ℕ} → Kept x y → Kept y x
   back a = record { ok-x = a .ok-y; ok-y = a .ok-x; own = λ i e. sym (a .own i e); opens = λ o h. sym (a .opens o h) }
 
-  pub through : {x y z : ℕ → ℕ} → Alike x y → Alike y z → Alike x z
+  pub through : {x y z : ℕ → ℕ} → Kept x y → Kept y z → Kept x z
   through a b = record { ok-x = a .ok-x; ok-y = b .ok-y; own = λ i e. b .own i e ∙ a .own i e; opens = λ o h. b .opens o h ∙ a .opens o h }
 
   -- tapes as they are lent: the right length, and good draws
@@ -50,7 +50,7 @@ module _ (G : Group) (s : Site) (C : Circuit) where
     pub long : length t ≡ tapes-sum C
     pub good : AllDraws Ok (read C t)
 
-  moved-ok : {x y : ℕ → ℕ} (T : Draws) → AllDraws Ok T → Alike x y → AllDraws Ok (retape R s C x y T)
+  moved-ok : {x y : ℕ → ℕ} (T : Draws) → AllDraws Ok T → Kept x y → AllDraws Ok (retape R s C x y T)
   moved-ok {x} {y} T ok a = retape-ok G s C x y T ok (a .ok-x) (a .ok-y) (a .own)
 
   pub new-length : (x y : ℕ → ℕ) (t : List ℕ) → length (new-tapes R s C x y t) ≡ tapes-sum C
@@ -62,19 +62,19 @@ module _ (G : Group) (s : Site) (C : Circuit) where
     pub new-taped : (x y : ℕ → ℕ) (t : List ℕ) → Taped (new-tapes R s C x y t)
     new-taped x y t = record { long = new-length x y t; good = ok-list _ }
 
-  seen-same : {x y : ℕ → ℕ} (t : List ℕ) → AllDraws Ok (read C t) → Alike x y
+  seen-same : {x y : ℕ → ℕ} (t : List ℕ) → AllDraws Ok (read C t) → Kept x y
       → seen-view R s C y (read C (new-tapes R s C x y t)) ≡ seen-view R s C x (read C t)
   unfolding new-tapes
   seen-same {x} {y} t ok a =
       view-used R s C y (read C (written C (retape R s C x y (read C t)))) (retape R s C x y (read C t)) (read-written C (retape R s C x y (read C t)))
       ∙ view-same G s C x y (read C t) ok (a .ok-x) (a .ok-y) (a .own) (a .opens)
 
-  pub same-view : {x y : ℕ → ℕ} (t : List ℕ) → Taped t → Taped (new-tapes R s C x y t) → Alike x y
+  pub same-view : {x y : ℕ → ℕ} (t : List ℕ) → Taped t → Taped (new-tapes R s C x y t) → Kept x y
       → view-from R s C y (new-tapes R s C x y t) ≡ view-from R s C x t
   same-view {x} {y} t h h′ a =
       view-is G s C y (new-tapes R s C x y t) (h′ .long) (h′ .good) ∙ seen-same t (h .good) a ∙ sym (view-is G s C x t (h .long) (h .good))
 
-  pub only-these : {x y : ℕ → ℕ} (t u : List ℕ) → Taped t → Taped u → Alike x y → view-from R s C y u ≡ view-from R s C x t → u ≡ new-tapes R s C x y t
+  pub only-these : {x y : ℕ → ℕ} (t u : List ℕ) → Taped t → Taped u → Kept x y → view-from R s C y u ≡ view-from R s C x t → u ≡ new-tapes R s C x y t
   unfolding new-tapes
   only-these {x} {y} t u ht hu a e =
       written-is C u (retape R s C x y (read C t)) (hu .long)
@@ -82,11 +82,11 @@ module _ (G : Group) (s : Site) (C : Circuit) where
       (sym (view-is G s C y u (hu .long) (hu .good)) ∙ e ∙ view-is G s C x t (ht .long) (ht .good)
       ∙ sym (view-same G s C x y (read C t) (ht .good) (a .ok-x) (a .ok-y) (a .own) (a .opens))))
 
-  pub there-and-back : {x y : ℕ → ℕ} (t : List ℕ) → Taped t → Taped (new-tapes R s C x y t) → Alike x y
+  pub there-and-back : {x y : ℕ → ℕ} (t : List ℕ) → Taped t → Taped (new-tapes R s C x y t) → Kept x y
       → new-tapes R s C y x (new-tapes R s C x y t) ≡ t
   there-and-back {x} {y} t h h′ a = sym (only-these (new-tapes R s C x y t) t h′ h (back a) (sym (same-view t h h′ a)))
 
-  pub by-third : {x y z : ℕ → ℕ} (t : List ℕ) → Taped t → Taped (new-tapes R s C x y t) → Taped (new-tapes R s C x z t) → Alike x y → Alike y z
+  pub by-third : {x y z : ℕ → ℕ} (t : List ℕ) → Taped t → Taped (new-tapes R s C x y t) → Taped (new-tapes R s C x z t) → Kept x y → Kept y z
       → new-tapes R s C y z (new-tapes R s C x y t) ≡ new-tapes R s C x z t
   by-third {x} {y} {z} t h hy hz a b =
       sym (only-these (new-tapes R s C x y t) (new-tapes R s C x z t) hy hz b
@@ -121,8 +121,8 @@ module _ (R : Ops) (K : Closed R) where
       three-in R K _ _ _ _ (hp .in-second) (in-sub _ _ (in-sub _ _ hu (hp .in-first)) (hp .in-second))
       (hq .in-second) (in-sub _ _ (in-sub _ _ hv (hq .in-first)) (hq .in-second))
 
-  behind-in : (s : Site) (k : Gate) (ms : List Pair) (vs : List ℕ) → ((w : ℕ) → In2 (getD ms w (0, 0))) → ((w : ℕ) → In (getD vs w 0)) → In (behind-product R s k ms vs)
-  unfolding behind-product
+  behind-in : (s : Site) (k : Gate) (ms : List Pair) (vs : List ℕ) → ((w : ℕ) → In2 (getD ms w (0, 0))) → ((w : ℕ) → In (getD vs w 0)) → In (next-shares R s k ms vs)
+  unfolding next-shares
   behind-in s (XOR i j) ms vs h k = in-zero
   behind-in s (AND i j) ms vs h k = next-in _ _ _ _ (h i) (h j) (k i) (k j)
   behind-in s (OR i j) ms vs h k =

@@ -21,8 +21,8 @@ use Rattle.sharing.specs.Ops.{Ops}
 use Rattle.sharing.specs.Sites.{Site, s1, s2, s3, Trio, of}
 use Rattle.sharing.specs.Circuit.{Gate, XOR, AND, OR, NOT, Circuit, Draws, Errors, dealing, ands, all-ands}
 use Rattle.sharing.specs.Published.{Deal}
-use Rattle.sharing.specs.Steps.{Pair, Wire, sent, sent3, gate-sent, six, unlike, weight, objecting, named, copies}
-use Rattle.sharing.specs.Run.{ins-after, after, ins-sent, gates-sent, output, out-sent, copies-at, objects, stop, opens-sent, made, transcript}
+use Rattle.sharing.specs.Steps.{Pair, Wire, delivered, delivered3, gate-delivered, six, unlike, weight, objecting, named, copies}
+use Rattle.sharing.specs.Run.{ins-after, after, ins-delivered, gates-delivered, output, out-delivered, copies-at, objects, stop, opens-delivered, made, transcript}
 use Rattle.sharing.specs.Line.{at-input, at-gate, at-output}
 use Rattle.sharing.proofs.SiteLaws.{by-site}
 use Rattle.sharing.proofs.FirstLaws.{Clear, first-at, first-none, first-le, first-hit, first-before}
@@ -46,8 +46,8 @@ grown-at l f d h n (suc m) q k r =
         ⊎-elim (λ p. let z : length (l (suc n)) ≡ length (l (suc j)) = ap (λ (z : ℕ). length (l (suc z))) p in let y = more n in omega arith)
         (λ p. let z = grows j p in let y = more j in omega arith) (eq-or-lt-of-le (le-of-suc-le-suc e))
 
-gate-length : (R : Ops) (e : ℕ → ℕ) (a b : Site → ℕ) (k : Gate) (ws : List Wire) → length (gate-sent R e a b k ws) ≡ 12 * dealing k
-unfolding gate-sent sent3 sent dealing
+gate-length : (R : Ops) (e : ℕ → ℕ) (a b : Site → ℕ) (k : Gate) (ws : List Wire) → length (gate-delivered R e a b k ws) ≡ 12 * dealing k
+unfolding gate-delivered delivered3 delivered dealing
 gate-length R e a b (XOR i j) ws = refl
 gate-length R e a b (AND i j) ws = refl
 gate-length R e a b (OR i j) ws = refl
@@ -109,29 +109,29 @@ unfolding objecting
 alike-none c h = rw (eq-eqb _ _ (h s1), eq-eqb _ _ (h s2), eq-eqb _ _ (h s3))
 
 module _ (R : Ops) (C : Circuit) (x : ℕ → ℕ) (T : Draws) (E : Errors) where
-  ins-length : (i : ℕ) → length (ins-sent R C x T E i) ≡ 4 * i
-  unfolding ins-sent sent
+  ins-length : (i : ℕ) → length (ins-delivered R C x T E i) ≡ 4 * i
+  unfolding ins-delivered delivered
   ins-length zero = refl
-  ins-length (suc i) = length-append (ins-sent R C x T E i) _ ∙ (let k = ins-length i in omega arith)
+  ins-length (suc i) = length-append (ins-delivered R C x T E i) _ ∙ (let k = ins-length i in omega arith)
 
-  pub gates-length : (g : ℕ) → length (gates-sent R C x T E g) ≡ at-gate C g
-  unfolding gates-sent ands at-gate
+  pub gates-length : (g : ℕ) → length (gates-delivered R C x T E g) ≡ at-gate C g
+  unfolding gates-delivered ands at-gate
   gates-length zero = let k = ins-length (C .ins) in omega arith
   gates-length (suc g) =
-      length-append (gates-sent R C x T E g) _
+      length-append (gates-delivered R C x T E g) _
       ∙ (let k = gates-length g in let q = gate-length R (E .on-gate g) (T .g1 g) (T .g2 g) (C .gate g) (after R C x T E g) in omega arith)
 
-  pub sent-length : (n : ℕ) → length (opens-sent R C x T E n) ≡ at-output C n
-  unfolding opens-sent out-sent six at-output at-gate
+  pub sent-length : (n : ℕ) → length (opens-delivered R C x T E n) ≡ at-output C n
+  unfolding opens-delivered out-delivered six at-output at-gate
   sent-length zero = let k = gates-length (C .gates) in omega arith
-  sent-length (suc n) = length-append (opens-sent R C x T E n) _ ∙ (let k = sent-length n in omega arith)
+  sent-length (suc n) = length-append (opens-delivered R C x T E n) _ ∙ (let k = sent-length n in omega arith)
 
   -- the bits of an opening, read from the transcript
-  pub sent-at : (o n : ℕ) → o < n → (k : ℕ) → k < 6 → getD (opens-sent R C x T E n) (at-output C o + k) 0 ≡ getD (out-sent R C x T E o) k 0
-  unfolding opens-sent out-sent six
+  pub sent-at : (o n : ℕ) → o < n → (k : ℕ) → k < 6 → getD (opens-delivered R C x T E n) (at-output C o + k) 0 ≡ getD (out-delivered R C x T E o) k 0
+  unfolding opens-delivered out-delivered six
   sent-at o n h k q =
-      ap (λ (z : ℕ). getD (opens-sent R C x T E n) (z + k) 0) (sym (sent-length o))
-      ∙ grown-at (opens-sent R C x T E) (out-sent R C x T E) 0 (λ m. refl) o n h k q
+      ap (λ (z : ℕ). getD (opens-delivered R C x T E n) (z + k) 0) (sym (sent-length o))
+      ∙ grown-at (opens-delivered R C x T E) (out-delivered R C x T E) 0 (λ m. refl) o n h k q
 
   -- the test of an output: some site objects
   abbrev stops-at : ℕ → Bool

@@ -15,7 +15,7 @@ use Rattle.sharing.specs.Published.{Parts, no-parts, total, share, flip-
 use Rattle.sharing.specs.Steps.{Pair, local}
 use Rattle.sharing.specs.Tapes.{ins-tape, tape}
 use Rattle.sharing.specs.View.{own-ins}
-use Rattle.sharing.specs.Retape.{mine, rest, next-product, flip-mine, behind-product, shift, retape}
+use Rattle.sharing.specs.Retape.{mine, rest, next-product, flip-mine, next-shares, shift, retape}
 use Rattle.sharing.proofs.SiteLaws.{Seen, itself, behind, before, seen, own-itself, own-behind, own-before}
 use Rattle.sharing.proofs.Group.{Group, move, rest-inj}
 use Rattle.sharing.proofs.Seen.{got, got-itself, got-behind, got-before, to-site, to-site3, ins-got, gates-got, all-got, seen-totals, seen-view}
@@ -62,16 +62,16 @@ module _ (G : Group) where
       local-behind s P Q hP hQ ∙ ap₂ (λ p u. next-product R p u (mine s Q) (total R Q)) e1 e3 ∙ ap₂ (λ q v. next-product R p u q v) e2 e4
 
   mul-behind : (s : Site) (i j : ℕ) (ps : List Parts) (ms : List Pair) (vs : List ℕ) → AllParts Ok ps → map (mine s) ps ≡ ms → map (total R) ps ≡ vs
-      → product-of R (next s) (AND i j) ps ≡ behind-product R s (AND i j) ms vs
-  unfolding left right behind-product
+      → product-of R (next s) (AND i j) ps ≡ next-shares R s (AND i j) ms vs
+  unfolding left right next-shares
   mul-behind s i j ps ms vs h em ev =
       product-behind s ps (getD ps i no-parts) (getD ps j no-parts) _ _ _ _ (h i) (h j)
       (look-mine G s ps i ∙ ap (λ l. getD l i (0, 0)) em) (look-mine G s ps j ∙ ap (λ l. getD l j (0, 0)) em)
       (look G ps i ∙ ap (λ l. getD l i 0) ev) (look G ps j ∙ ap (λ l. getD l j 0) ev)
 
   or-behind : (s : Site) (i j : ℕ) (ps : List Parts) (ms : List Pair) (vs : List ℕ) → AllParts Ok ps → map (mine s) ps ≡ ms → map (total R) ps ≡ vs
-      → product-of R (next s) (OR i j) ps ≡ behind-product R s (OR i j) ms vs
-  unfolding left right behind-product
+      → product-of R (next s) (OR i j) ps ≡ next-shares R s (OR i j) ms vs
+  unfolding left right next-shares
   or-behind s i j ps ms vs h em ev =
       product-behind s ps (flip-parts R (getD ps i no-parts)) (flip-parts R (getD ps j no-parts)) _ _ _ _ (flip-ok G _ (h i)) (flip-ok G _ (h j))
       (mine-flip G s _ ∙ ap (flip-mine R s) (look-mine G s ps i ∙ ap (λ l. getD l i (0, 0)) em))
@@ -79,8 +79,8 @@ module _ (G : Group) where
       (flip-total G _ ∙ ap (λ (z : ℕ). add z 1) (look G ps i ∙ ap (λ l. getD l i 0) ev))
       (flip-total G _ ∙ ap (λ (z : ℕ). add z 1) (look G ps j ∙ ap (λ l. getD l j 0) ev))
 
-  product-ok : (s : Site) (k : Gate) (ms : List Pair) (vs : List ℕ) → Ok (behind-product R s k ms vs)
-  unfolding behind-product
+  product-ok : (s : Site) (k : Gate) (ms : List Pair) (vs : List ℕ) → Ok (next-shares R s k ms vs)
+  unfolding next-shares
   product-ok s (XOR i j) ms vs = ok-zero
   product-ok s (AND i j) ms vs = ok-add _ _
   product-ok s (OR i j) ms vs = ok-add _ _
@@ -95,9 +95,9 @@ module _ (G : Group) where
         ++ got s s3 (mine s (share R s3 (product-of R s3 k ps) (a s3) (b s3)))
 
     abbrev new : Gate → Site → ℕ
-    new k t = shift R s t (a t) (sub (behind-product R s k ms vs′) (behind-product R s k ms vs))
+    new k t = shift R s t (a t) (sub (next-shares R s k ms vs′) (next-shares R s k ms vs))
 
-    three-same : (k : Gate) → product-of R (next s) k ps ≡ behind-product R s k ms vs → product-of R (next s) k ps′ ≡ behind-product R s k ms vs′
+    three-same : (k : Gate) → product-of R (next s) k ps ≡ next-shares R s k ms vs → product-of R (next s) k ps′ ≡ next-shares R s k ms vs′
         → bits-to k ps′ (new k) ≡ bits-to k ps a
     three-same k e e′ = ap₂ _++_ (ap₂ _++_ (one s1) (one s2)) (one s3)
       where

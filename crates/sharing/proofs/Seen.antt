@@ -1,4 +1,4 @@
--- A site's view from the published parts: the form in which the laws of re-taping are proved. ViewForm.antt ties it to specs/View.antt.
+-- A site's view from the published parts: the form in which the laws of re-taping are proved. ViewLaws.antt ties it to specs/View.antt.
 --     got s t p          what a deal of t's brings to s on the line: nothing if it is its own
 --     all-got            what the line brings to s
 --     seen-totals        the opened values

@@ -16,7 +16,7 @@ use Rattle.sharing.specs.Published.{Parts, no-parts, total, share, flip-
 use Rattle.sharing.specs.Steps.{Pair, local}
 use Rattle.sharing.specs.Tapes.{ins-tape, tape}
 use Rattle.sharing.specs.View.{own-ins}
-use Rattle.sharing.specs.Retape.{mine, rest, next-product, flip-mine, behind-product, shift, retape}
+use Rattle.sharing.specs.Retape.{mine, rest, next-product, flip-mine, next-shares, shift, retape}
 use Rattle.sharing.proofs.SiteLaws.{Seen, itself, behind, before, seen, own-itself, own-behind, own-before}
 use Rattle.sharing.proofs.Group.{Group, move, rest-inj}
 use Rattle.sharing.proofs.Seen.{got, got-itself, got-behind, got-before, to-site, to-site3, ins-got, gates-got, all-got, seen-totals, seen-view}

@@ -17,7 +17,7 @@ use Rattle.sharing.specs.Circuit.{Circuit, Draws, no-errors, owned, all-
 use Rattle.sharing.specs.Values.{values}
 use Rattle.sharing.specs.Published.{total, out-parts}
 use Rattle.sharing.specs.Order.{routes, pick}
-use Rattle.sharing.specs.Run.{opened-at, opens-sent, made, transcript}
+use Rattle.sharing.specs.Run.{opened-at, opens-delivered, made, transcript}
 use Rattle.sharing.specs.Tapes.{tape-length, cut, read, tape}
 use Rattle.sharing.specs.View.{own-ins, seen-outs, view-from}
 use Rattle.sharing.proofs.Group.{Group}
@@ -25,12 +25,12 @@ use Rattle.sharing.proofs.SiteLaws.{Seen, itself, behind, before, seen,
 use Rattle.sharing.proofs.Parts.{AllDraws, total-at}
 use Rattle.sharing.proofs.Clean.{no-objection, opened-total, thrice}
 use Rattle.sharing.proofs.RunLaws.{stop-none, quiet-made}
-use Rattle.sharing.proofs.OrderLaws.{delivered, got-length}
+use Rattle.sharing.proofs.OrderLaws.{reaches, got-length}
 use Rattle.sharing.proofs.TapeLaws.{tapes-sum, read-tape, cut-sized, gates-length}
 use Rattle.sharing.proofs.Seen.{all-got, seen-totals, seen-view}
 use Rattle.sharing.proofs.Unique.{split, split-end, own-length, own-agree}
 
-of-thrice : (v : ℕ) (s : Site) → of (thrice v) s ≡ v
+pub of-thrice : (v : ℕ) (s : Site) → of (thrice v) s ≡ v
 of-thrice v s1 = refl
 of-thrice v s2 = refl
 of-thrice v s3 = refl
@@ -39,10 +39,10 @@ module _ (G : Group) (s : Site) (C : Circuit) (x : ℕ → ℕ) where
   open Group G using (ops as R, Ok)
 
   -- on a clean line the whole transcript is that of all openings
-  pub clean-transcript : (T : Draws) → AllDraws Ok T → transcript R C x T no-errors ≡ opens-sent R C x T no-errors (C .outs)
+  pub clean-transcript : (T : Draws) → AllDraws Ok T → transcript R C x T no-errors ≡ opens-delivered R C x T no-errors (C .outs)
   unfolding transcript
   clean-transcript T ok =
-      ap (opens-sent R C x T no-errors) (quiet-made R C x T no-errors (stop-none R C x T no-errors (λ p h. no-objection G C x T ok p)))
+      ap (opens-delivered R C x T no-errors) (quiet-made R C x T no-errors (stop-none R C x T no-errors (λ p h. no-objection G C x T ok p)))
 
   outs-are : (T : Draws) → AllDraws Ok T → (n : ℕ) → seen-outs R s C x T n ≡ seen-totals R s C x T n
   unfolding seen-outs seen-totals
@@ -54,7 +54,7 @@ module _ (G : Group) (s : Site) (C : Circuit) (x : ℕ → ℕ) where
   unfolding view-from seen-view
   view-is t h ok =
       ap₂ _++_ (ap₂ (λ a b. own-ins s C x (C .ins) ++ a ++ b) (sym (read-tape C t h s))
-      (ap (pick s (routes C (C .outs))) (clean-transcript (read C t) ok) ∙ delivered G s C x (read C t) ok (C .outs)))
+      (ap (pick s (routes C (C .outs))) (clean-transcript (read C t) ok) ∙ reaches G s C x (read C t) ok (C .outs)))
       (outs-are (read C t) ok (C .outs))
 
 own-one : (s t : Site) → Seen s t → (a : ℕ) → length (if-own s t (a ∷ [])) ≡ cond (is s t) 1 0

@@ -1,4 +1,5 @@
--- 01: "The line is one byte per sent bit, xored onto it. The transcript is the delivered bits in this order. Both have 4I+12A+6O bytes."
+-- 01: "The line is one byte per sent bit, xored onto it. The transcript is the delivered bits in this order. Both have
+-- 4I+12A+6O bytes, at most 42,496."
 --     at-input, at-gate, at-output    where a step's bits begin, in the order of Order.antt
 --     errors C l                      what a line adds, by step
 -- A line that is too short adds nothing where it ends, so the empty line is the clean one.

@@ -11,6 +11,6 @@ pub record Ops : Type 0 where
   pub sub : ℕ → ℕ → ℕ
   pub mul : ℕ → ℕ → ℕ
 
--- 01: "a bit is one byte, 0 or 1"; sums and differences of bits are xor, their product is and.
+-- 01: "A bit is one byte, 0 or 1.": sums and differences of bits are xor, their product is and.
 abbrev pub bits : Ops
 bits = record { add = bitXor; sub = bitXor; mul = bitAnd }

@@ -1,9 +1,9 @@
--- Re-taping. 01 says of the new tapes what they do: with the second inputs they give the site the same view (demand 3). These do it, and
--- no others (proofs/). Only the site after s draws anew, and of each of its pairs of draws only the first: it becomes the part that s lacks,
+-- Re-taping. 01 says that the build "finds the tapes that explain one site's view by other inputs", and 00's third demand that exactly one
+-- set does: with the second inputs it gives the site the same view. These tapes do it, and no others (proofs/RetapeLaws.antt). Only the site after s draws anew, and of each of its pairs of draws only the first: it becomes the part that s lacks,
 -- and moves by as much as the value that is shared there. What that site shares at a gate is worked out from what s has in the work room:
 -- the plain values, and its own pairs.
 --     mine               what site s holds of three parts
---     behind-product     what the site after s shares at a gate, from the pairs of s and the values
+--     next-shares     what the site after s shares at a gate, from the pairs of s and the values
 --     shift              a draw, moved where it is of the site after s
 --     retape             the new draws
 --     new-tapes          the new tapes, as they are lent
@@ -38,12 +38,12 @@ module _ (R : Ops) where
   flip-mine s2 p = p
   flip-mine s3 p = (p .0, add (p .1) 1)
 
-  unfoldable pub behind-product : Site → Gate → List Pair → List ℕ → ℕ
-  behind-product s (XOR i j) ms vs = 0
-  behind-product s (AND i j) ms vs = next-product (getD ms i (0, 0)) (getD vs i 0) (getD ms j (0, 0)) (getD vs j 0)
-  behind-product s (OR i j) ms vs =
+  unfoldable pub next-shares : Site → Gate → List Pair → List ℕ → ℕ
+  next-shares s (XOR i j) ms vs = 0
+  next-shares s (AND i j) ms vs = next-product (getD ms i (0, 0)) (getD vs i 0) (getD ms j (0, 0)) (getD vs j 0)
+  next-shares s (OR i j) ms vs =
       next-product (flip-mine s (getD ms i (0, 0))) (add (getD vs i 0) 1) (flip-mine s (getD ms j (0, 0))) (add (getD vs j 0) 1)
-  behind-product s (NOT i) ms vs = 0
+  next-shares s (NOT i) ms vs = 0
 
   unfoldable pub shift : Site → Site → ℕ → ℕ → ℕ
   shift s t d δ = cond (is (next s) t) (add d δ) d
@@ -53,8 +53,8 @@ module _ (R : Ops) where
     in1 = λ i. shift s (C .owner i) (T .in1 i) (sub (y i) (x i));
     in2 = T .in2;
     g1 = λ g t. shift s t (T .g1 g t)
-        (sub (behind-product s (C .gate g) (map (mine s) (parts R C x T g)) (values R C y g))
-        (behind-product s (C .gate g) (map (mine s) (parts R C x T g)) (values R C x g)));
+        (sub (next-shares s (C .gate g) (map (mine s) (parts R C x T g)) (values R C y g))
+        (next-shares s (C .gate g) (map (mine s) (parts R C x T g)) (values R C x g)));
     g2 = T .g2;
   }
 

@@ -1,6 +1,6 @@
 -- The run of the three sites, for every line: what each holds of every wire, every delivered bit, where it stops.
 --     after C x T E g       each site's pair of every wire, after the inputs and the first g gates
---     gates-sent            the bits delivered so far
+--     gates-delivered            the bits delivered so far
 --     output, copies-at     the wire of an output; the two copies that each site gets there
 --     objects               the sum of the sites that object there
 --     stop                  the first output at which a site objects, or O
@@ -16,7 +16,7 @@ use Rattle.sharing.specs.Ops.{Ops}
 use Rattle.sharing.specs.Sites.{Trio}
 use Rattle.sharing.specs.Circuit.{Circuit, Draws, Errors}
 use Rattle.sharing.specs.Published.{deal}
-use Rattle.sharing.specs.Steps.{Pair, Wire, no-wire, in-wire, sent, gate-wire, gate-sent, six, copies, objecting, opened}
+use Rattle.sharing.specs.Steps.{Pair, Wire, no-wire, in-wire, delivered, gate-wire, gate-delivered, six, copies, objecting, opened}
 use Rattle.sharing.specs.First.{first}
 
 module _ (R : Ops) (C : Circuit) (x : ℕ → ℕ) (T : Draws) (E : Errors) where
@@ -28,22 +28,22 @@ module _ (R : Ops) (C : Circuit) (x : ℕ → ℕ) (T : Draws) (E : Errors) wher
   after zero = ins-after (C .ins)
   after (suc g) = after g ++ (gate-wire R (E .on-gate g) (T .g1 g) (T .g2 g) (C .gate g) (after g) ∷ [])
 
-  unfoldable pub ins-sent : ℕ → List ℕ
-  ins-sent zero = []
-  ins-sent (suc i) = ins-sent i ++ sent R (E .on-input i) (deal R (x i) (T .in1 i) (T .in2 i))
+  unfoldable pub ins-delivered : ℕ → List ℕ
+  ins-delivered zero = []
+  ins-delivered (suc i) = ins-delivered i ++ delivered R (E .on-input i) (deal R (x i) (T .in1 i) (T .in2 i))
 
-  unfoldable pub gates-sent : ℕ → List ℕ
-  gates-sent zero = ins-sent (C .ins)
-  gates-sent (suc g) = gates-sent g ++ gate-sent R (E .on-gate g) (T .g1 g) (T .g2 g) (C .gate g) (after g)
+  unfoldable pub gates-delivered : ℕ → List ℕ
+  gates-delivered zero = ins-delivered (C .ins)
+  gates-delivered (suc g) = gates-delivered g ++ gate-delivered R (E .on-gate g) (T .g1 g) (T .g2 g) (C .gate g) (after g)
 
   unfoldable pub output : ℕ → Wire
   output o = getD (after (C .gates)) (C .out o) no-wire
 
-  unfoldable pub out-sent : ℕ → List ℕ
-  out-sent o = six R (E .on-output o) (output o)
+  unfoldable pub out-delivered : ℕ → List ℕ
+  out-delivered o = six R (E .on-output o) (output o)
 
   abbrev pub copies-at : ℕ → Trio Pair
-  copies-at o = copies (out-sent o)
+  copies-at o = copies (out-delivered o)
 
   unfoldable pub objects : ℕ → ℕ
   objects o = objecting (copies-at o)
@@ -52,16 +52,16 @@ module _ (R : Ops) (C : Circuit) (x : ℕ → ℕ) (T : Draws) (E : Errors) wher
   unfoldable pub stop : ℕ
   stop = first (λ (o : ℕ). not (eqb (objects o) 0)) (C .outs)
 
-  unfoldable pub opens-sent : ℕ → List ℕ
-  opens-sent zero = gates-sent (C .gates)
-  opens-sent (suc o) = opens-sent o ++ out-sent o
+  unfoldable pub opens-delivered : ℕ → List ℕ
+  opens-delivered zero = gates-delivered (C .gates)
+  opens-delivered (suc o) = opens-delivered o ++ out-delivered o
 
   -- 01: "the transcript holds everything through that opening's six bits"
   unfoldable pub made : ℕ
   made = min (suc stop) (C .outs)
 
   unfoldable pub transcript : List ℕ
-  transcript = opens-sent made
+  transcript = opens-delivered made
 
   unfoldable pub opened-at : ℕ → Trio ℕ
   opened-at o = opened R (copies-at o) (output o)

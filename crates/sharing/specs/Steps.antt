@@ -3,10 +3,10 @@
 --     Pair, Wire         one site's two parts of a wire; the three sites' pairs
 --     hold               the pairs that the sites hold of three parts
 --     later e n          the line's errors from the n'th bit of a step on
---     in-wire, in-sent   step 1
+--     in-wire, delivered    step 1
 --     add-wire, flip     steps 2 and 3
---     local, deals, mix, sent3    step 4
---     gate-wire, gate-sent        a gate of any kind: the pairs it makes, the bits delivered
+--     local, deals, mix, delivered3    step 4
+--     gate-wire, gate-delivered        a gate of any kind: the pairs it makes, the bits delivered
 --     six, copies, objecting, named, opened   step 6
 -- The argument e is the line's error on each bit of this step, counted from 0.
 use mathlib.Core.Bool.{Bool, cond}
@@ -65,21 +65,21 @@ module _ (R : Ops) where
   open Ops R using (add, mul)
 
   -- a deal's four bits, delivered: "each sends first to s+1, then to s+2; for a receiver k its part k comes before part k+1"
-  unfoldable pub sent : (ℕ → ℕ) → Deal → List ℕ
-  sent e D = add (D .d1) (e 0) ∷ add (D .d2) (e 1) ∷ add (D .d2) (e 2) ∷ add (D .r) (e 3) ∷ []
+  unfoldable pub delivered : (ℕ → ℕ) → Deal → List ℕ
+  delivered e D = add (D .d1) (e 0) ∷ add (D .d2) (e 1) ∷ add (D .d2) (e 2) ∷ add (D .r) (e 3) ∷ []
 
   -- what the site after the dealer gets, and the one after that
   abbrev pub to-next : (ℕ → ℕ) → Deal → Pair
   to-next e D = (add (D .d1) (e 0), add (D .d2) (e 1))
 
-  abbrev pub to-last : (ℕ → ℕ) → Deal → Pair
-  to-last e D = (add (D .d2) (e 2), add (D .r) (e 3))
+  abbrev pub to-prev : (ℕ → ℕ) → Deal → Pair
+  to-prev e D = (add (D .d2) (e 2), add (D .r) (e 3))
 
   -- 01, step 1, for an owner and what it deals
   unfoldable pub in-wire : (ℕ → ℕ) → Site → Deal → Wire
-  in-wire e s1 D = record { at1 = kept D; at2 = to-next e D; at3 = to-last e D }
-  in-wire e s2 D = record { at1 = to-last e D; at2 = kept D; at3 = to-next e D }
-  in-wire e s3 D = record { at1 = to-next e D; at2 = to-last e D; at3 = kept D }
+  in-wire e s1 D = record { at1 = kept D; at2 = to-next e D; at3 = to-prev e D }
+  in-wire e s2 D = record { at1 = to-prev e D; at2 = kept D; at3 = to-next e D }
+  in-wire e s3 D = record { at1 = to-next e D; at2 = to-prev e D; at3 = kept D }
 
   abbrev pub add-pair : Pair → Pair → Pair
   add-pair a b = (add (a .0) (b .0), add (a .1) (b .1))
@@ -105,15 +105,15 @@ module _ (R : Ops) where
   }
 
   -- "and sends": "senders go 1, 2, 3"
-  unfoldable pub sent3 : (ℕ → ℕ) → Trio Deal → List ℕ
-  sent3 e D = sent e (D .at1) ++ sent (later e 4) (D .at2) ++ sent (later e 8) (D .at3)
+  unfoldable pub delivered3 : (ℕ → ℕ) → Trio Deal → List ℕ
+  delivered3 e D = delivered e (D .at1) ++ delivered (later e 4) (D .at2) ++ delivered (later e 8) (D .at3)
 
   -- "The new part j is the xor of the three pieces j, as held or received": a site's own, then from the site before it, then from the one after
   unfoldable pub mix : (ℕ → ℕ) → Trio Deal → Wire
   mix e D = record {
-    at1 = add-pair (add-pair (kept (D .at1)) (to-next (later e 8) (D .at3))) (to-last (later e 4) (D .at2));
-    at2 = add-pair (add-pair (kept (D .at2)) (to-next e (D .at1))) (to-last (later e 8) (D .at3));
-    at3 = add-pair (add-pair (kept (D .at3)) (to-next (later e 4) (D .at2))) (to-last e (D .at1));
+    at1 = add-pair (add-pair (kept (D .at1)) (to-next (later e 8) (D .at3))) (to-prev (later e 4) (D .at2));
+    at2 = add-pair (add-pair (kept (D .at2)) (to-next e (D .at1))) (to-prev (later e 8) (D .at3));
+    at3 = add-pair (add-pair (kept (D .at3)) (to-next (later e 4) (D .at2))) (to-prev e (D .at1));
   }
 
   abbrev pub mul-wire : (ℕ → ℕ) → (Site → ℕ) → (Site → ℕ) → Wire → Wire → Wire
@@ -126,11 +126,11 @@ module _ (R : Ops) where
   gate-wire e a b (OR i j) ws = flip (mul-wire e a b (flip (getD ws i no-wire)) (flip (getD ws j no-wire)))
   gate-wire e a b (NOT i) ws = flip (getD ws i no-wire)
 
-  unfoldable pub gate-sent : (ℕ → ℕ) → (Site → ℕ) → (Site → ℕ) → Gate → List Wire → List ℕ
-  gate-sent e a b (XOR i j) ws = []
-  gate-sent e a b (AND i j) ws = sent3 e (deals a b (getD ws i no-wire) (getD ws j no-wire))
-  gate-sent e a b (OR i j) ws = sent3 e (deals a b (flip (getD ws i no-wire)) (flip (getD ws j no-wire)))
-  gate-sent e a b (NOT i) ws = []
+  unfoldable pub gate-delivered : (ℕ → ℕ) → (Site → ℕ) → (Site → ℕ) → Gate → List Wire → List ℕ
+  gate-delivered e a b (XOR i j) ws = []
+  gate-delivered e a b (AND i j) ws = delivered3 e (deals a b (getD ws i no-wire) (getD ws j no-wire))
+  gate-delivered e a b (OR i j) ws = delivered3 e (deals a b (flip (getD ws i no-wire)) (flip (getD ws j no-wire)))
+  gate-delivered e a b (NOT i) ws = []
 
   -- 01, step 6: the six bits of an opening, delivered: site s sends its part s to s+1 and its part s+1 to s+2
   unfoldable pub six : (ℕ → ℕ) → Wire → List ℕ

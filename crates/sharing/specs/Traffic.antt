@@ -2,7 +2,7 @@
 --     input-adds, gate-adds, output-adds    what one step adds, from a to b
 --     comparing                             the copies that the figure leaves out
 --     entry C a b                           the sum over the circuit's steps
---     table C                               the nine entries, by rows
+--     traffic-table C                               the nine entries, by rows
 --     table-total                           their sum
 use mathlib.Core.Bool.{Bool, _&&_, not, cond}
 use mathlib.Core.List.{List, [], _∷_}
@@ -34,11 +34,11 @@ sum f (suc n) = sum f n + f n
 unfoldable pub entry : Circuit → Site → Site → ℕ
 entry C a b = sum (λ i. input-adds (C .owner i) a b) (C .ins) + sum (λ g. gate-adds (C .gate g) a b) (C .gates) + sum (λ o. output-adds a b) (C .outs)
 
-abbrev pub row : Circuit → Site → List ℕ
-row C a = entry C a s1 ∷ entry C a s2 ∷ entry C a s3 ∷ []
+abbrev pub traffic-row : Circuit → Site → List ℕ
+traffic-row C a = entry C a s1 ∷ entry C a s2 ∷ entry C a s3 ∷ []
 
-unfoldable pub table : Circuit → List (List ℕ)
-table C = row C s1 ∷ row C s2 ∷ row C s3 ∷ []
+unfoldable pub traffic-table : Circuit → List (List ℕ)
+traffic-table C = traffic-row C s1 ∷ traffic-row C s2 ∷ traffic-row C s3 ∷ []
 
 -- with a refusal "the table is all zeros"
 abbrev pub no-table : List (List ℕ)
