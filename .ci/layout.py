@@ -2,6 +2,7 @@
 
 - Every folder under crates/ is a line of crates.txt, and the other way round.
 - No definition or proof declares an axiom.
+- No public call has a `requires`. A public call is a function whose comment begins "PUBLIC."; docs/STATEMENTS.md names each of them.
 - Every must-fail edit says in its first line what wrong program it is.
 - Sources are in the toolchain's layout (`rt fmt --check`).
 """
@@ -23,7 +24,23 @@ def listed():
     return names
 
 
+def public_calls():
+    """Path, name, and the text between the comment and the body, of each public call."""
+    call = re.compile(r"^// PUBLIC\..*\n(?://.*\n)*pub (?:extern \"C\" )?fn (\w+)([^{]*(?:\{ λ[^\n]*\n[^{]*)*)", re.M)
+    for path in sorted((ROOT / "crates").glob("*/src/*.rt")):
+        for found in call.finditer(path.read_text()):
+            yield path.relative_to(ROOT), found.group(1), found.group(0)
+
+
 def problems():
+    named = (ROOT / "docs" / "STATEMENTS.md").read_text()
+    for path, name, text in public_calls():
+        if re.search(r"^\s*requires\b", text, re.M):
+            yield f"{path}: public call {name} has a requires"
+        if not re.search(r"^\s*ensures\b", text, re.M):
+            yield f"{path}: public call {name} ensures nothing"
+        if f"[`{name}`](../{path})" not in named:
+            yield f"{path}: public call {name} is not in docs/STATEMENTS.md"
     folders = {path.name for path in (ROOT / "crates").iterdir() if path.is_dir()}
     for name in sorted(folders ^ listed()):
         yield f"crates/{name} and crates.txt differ"

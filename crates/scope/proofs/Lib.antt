@@ -2,6 +2,7 @@ pub mod PlainLaws
 pub mod Refusals
 pub mod RowLaws
 pub mod CallLaws
+pub mod Places
 pub mod Accepted
 pub mod RunCall
 pub mod RetapeCall

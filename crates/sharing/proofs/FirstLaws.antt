@@ -4,10 +4,11 @@
 --     first-none            where it holds nowhere below n, the first is n
 --     first-hit, first-le   the first below n is a number at which it holds; it is never above n
 --     first-before          it holds nowhere before the first
+--     later-is-not-first    a later number at which it holds is not the first
 --     found, passed, ended  the same, as a loop over i meets them
 -- Assumes nothing.
 use mathlib.Core.Path.{_≡_, refl, sym, ap, _∙_, subst}
-use mathlib.Core.Bool.{Bool, true, false, cond}
+use mathlib.Core.Bool.{Bool, true, false, cond, true≢false}
 use Prim.Native.Nat.{ℕ, zero, suc, _+_, _≤_, _<_, zero-le, suc-le-suc}
 use native.Mathlib.Nat.{not-suc-le-zero, le-of-suc-le-suc, le-antisymm}
 use Rattle.sharing.specs.First.{first}
@@ -80,3 +81,7 @@ first-before p (suc n) = go (p zero) refl (first-before (λ (k : ℕ). p (suc k)
 -- no hit: the test holds nowhere
 pub first-clear : (p : ℕ → Bool) (n : ℕ) → n ≤ first p n → Clear p n
 first-clear p n h = subst (λ (k : ℕ). Clear p k) (le-antisymm (first-le p n) h) (first-before p n)
+
+-- a later number at which the test holds is not the first: "first fault replaced by last" does not meet a statement about the first
+pub later-is-not-first : (p : ℕ → Bool) (i j n : ℕ) → p i ≡ true → i < j → j ≡ first p n → ⊥
+later-is-not-first p i j n e h q = true≢false (sym e ∙ first-before p n i (subst (λ (k : ℕ). i < k) q h))

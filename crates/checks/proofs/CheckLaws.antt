@@ -1,0 +1,185 @@
+-- The tests and chains of the checks, as the code meets them.
+--     owner-test, gate-test, output-test    a test of what was read
+--     kind-test         the test of a gate's numbers
+--     bits-place, ..    the fault of a slice of bits
+-- Assumes nothing.
+use mathlib.Core.Path.{_≡_, refl, sym, ap, ap₂, _∙_, subst}
+use mathlib.Core.Bool.{Bool, true, false, not, cond, _&&_, _||_}
+use mathlib.Core.List.{List, [], _∷_}
+use Prim.Native.Nat.{ℕ, zero, suc, _+_, _<_, _≤_}
+use native.Mathlib.Omega.{arith}
+use native.Mathlib.Numerals.{add-one}
+use lib.ListN.{length, getD}
+use lib.Dec.{leb, ltb, eqb}
+use borrow.Author.Tests.{lt-ltb, le-ltb, ltb-true, ltb-false, eq-eqb, ne-eqb, not-false}
+use Rattle.sharing.specs.First.{first}
+use Rattle.sharing.proofs.FirstLaws.{Clear, first-at, first-none, first-hit, first-before, first-clear}
+use Rattle.scope.specs.File.{kind-at, first-at as operand-at, second-at, owner-at, output-at}
+use Rattle.scope.specs.Answer.{good, After}
+use Rattle.scope.specs.Checks.{one-to-three, good-gate, fault, bits-row, row, refusal-table, row-owner, row-gate, row-output, accepted, refuses, verdict}
+use Rattle.scope.specs.Refusal.{stands-in, those-of}
+use Rattle.scope.specs.Calls.{Check, given-of, concerns, order, lent-before, lent-at-13, when-good, returned-refused, answers, does}
+use Rattle.scope.proofs.CallLaws.{does-good}
+use Rattle.header.specs.declared.Counts.{Counts}
+use Rattle.header.specs.declared.Header.{Header}
+use Rattle.header.specs.declared.Header.the-variants.{Good, Refused}
+use Rattle.circuit.specs.declared.Gate.{Gate}
+use Rattle.circuit.specs.declared.Gate.the-variants.{Is as GateIs}
+use Rattle.circuit.specs.declared.Owner.{Owner}
+use Rattle.circuit.specs.declared.Owner.the-variants.{Is as OwnerIs}
+use Rattle.circuit.specs.declared.Output.{Output}
+use Rattle.circuit.specs.declared.Output.the-variants.{Is as OutputIs}
+use Rattle.header.specs.Mirror.{header-of, Opened, IsOpened}
+use Rattle.circuit.specs.Mirror.{gate-by, owner-by, output-by}
+use Rattle.circuit.proofs.ReaderLaws.{gate-some, owner-some, output-some}
+use Rattle.header.proofs.OpenLaws.{only-answer, opened-from, header-inj}
+use Rattle.header.specs.Answers.{header-answer}
+use Rattle.header.proofs.HeaderLaws.{header-refused, header-good}
+use Rattle.checks.specs.Mirror.{bad-owner, bad-kind, bad-gate, bad-output, above, checked-of, Checked, IsChecked}
+
+pub owner-test : (s : List ℕ) (c : Counts) (k o : ℕ) (r : Owner) → r ≡ owner-by s c k → r ≡ OwnerIs o → k < c .inputs → not (one-to-three o) ≡ bad-owner s k
+unfolding bad-owner
+owner-test s c k o r e q h = ap (λ (z : ℕ). not (one-to-three z)) (owner-some s c k o r e q h)
+
+pub output-test : (s : List ℕ) (c : Counts) (k w : ℕ) (r : Output) → r ≡ output-by s c k → r ≡ OutputIs w → k < c .outputs
+    → not (ltb w (c .inputs + c .gates)) ≡ bad-output s (c .inputs) (c .gates) k
+unfolding bad-output
+output-test s c k w r e q h = ap (λ (z : ℕ). not (ltb z (c .inputs + c .gates))) (output-some s c k w r e q h)
+
+-- NOT's second and the others', in one expression that does not branch
+choice : (c a b : Bool) → ((c && a) || (not c && b)) ≡ cond c a b
+choice true true b = refl
+choice true false b = refl
+choice false a b = refl
+
+pub kind-test : (kind a b w : ℕ) → not (((leb 1 kind && leb kind 4) && ltb a w) && ((eqb kind 3 && eqb b 0) || (not (eqb kind 3) && ltb b w))) ≡ bad-kind kind a b w
+unfolding bad-kind good-gate
+kind-test kind a b w = ap (λ (z : Bool). not ((leb 1 kind && leb kind 4) && ltb a w && z)) (choice (eqb kind 3) (eqb b 0) (ltb b w))
+
+pub gate-test : (s : List ℕ) (c : Counts) (k kind a b : ℕ) (r : Gate) (t : Bool) → r ≡ gate-by s c k → r ≡ GateIs kind a b → k < c .gates
+    → t ≡ bad-kind kind a b (c .inputs + k) → t ≡ bad-gate s (c .inputs) k
+unfolding bad-gate
+gate-test s c k kind a b r t e q h m =
+    let v = gate-some s c k kind a b r e q h in
+    m ∙ (λ i. bad-kind (v .0 i) (v .1 i) (v .2 i) (c .inputs + k))
+
+-- the fault of a slice of bits: the wanted length, an index, or one beyond
+module _ (s : List ℕ) (want : ℕ) where
+  long : length s ≡ want → (p : ℕ) → p < want → bits-row s want .bad p ≡ above s p
+  unfolding above
+  long e p h = rw (eq-eqb _ _ e, lt-ltb p want h)
+
+  pub bits-short : (length s ≡ want → ⊥) → want ≡ fault (bits-row s want)
+  unfolding fault
+  bits-short h = sym (first-at (bits-row s want .bad) want (suc want) (λ p l. rw (ne-eqb (length s) want h, ne-eqb p want (λ e. omega arith))) (omega arith) (rw (ne-eqb (length s) want h, eq-eqb want want refl)))
+
+  pub bits-above : (k : ℕ) → length s ≡ want → k ≡ first (above s) want → k < want → k ≡ fault (bits-row s want)
+  unfolding fault
+  bits-above k e q h =
+      let f : first (above s) want < want = (let z : k ≡ first (above s) want = q in omega arith) in
+      q ∙ sym (first-at (bits-row s want .bad) (first (above s) want) (suc want)
+      (λ p l. long e p (omega arith) ∙ first-before (above s) want p l) (omega arith)
+      (long e (first (above s) want) f ∙ first-hit (above s) want f))
+
+  pub bits-sound : (k : ℕ) → length s ≡ want → k ≡ first (above s) want → want ≤ k → want + 1 ≡ fault (bits-row s want)
+  unfolding fault
+  bits-sound k e q h =
+      add-one want
+      ∙ sym (first-none (bits-row s want .bad) (suc want) (λ p l. go p (ltb p want) refl))
+    where
+      clear : Clear (above s) want
+      clear = first-clear (above s) want (let z : k ≡ first (above s) want = q in omega arith)
+
+      go : (p : ℕ) (b : Bool) → ltb p want ≡ b → bits-row s want .bad p ≡ false
+      go p true t = let h : p < want = ltb-true p want t in long e p h ∙ clear p h
+      go p false t = rw (eq-eqb _ _ e, t)
+
+-- checks 4 to 6, as the code goes through them
+pub parts-owner : (s : List ℕ) (c : Counts) (i : ℕ) → i ≡ first (bad-owner s) (c .inputs) → i < c .inputs → Refused 4 i ≡ checked-of s c
+unfolding checked-of
+parts-owner s c i ei h = rw (← ei, lt-ltb i (c .inputs) h)
+
+pub parts-gate : (s : List ℕ) (c : Counts) (i g : ℕ) → i ≡ first (bad-owner s) (c .inputs) → c .inputs ≤ i → g ≡ first (bad-gate s (c .inputs)) (c .gates) → g < c .gates
+    → Refused 5 g ≡ checked-of s c
+unfolding checked-of
+parts-gate s c i g ei hi eg h = rw (← ei, le-ltb i (c .inputs) hi, ← eg, lt-ltb g (c .gates) h)
+
+pub parts-output : (s : List ℕ) (c : Counts) (i g o : ℕ) → i ≡ first (bad-owner s) (c .inputs) → c .inputs ≤ i → g ≡ first (bad-gate s (c .inputs)) (c .gates) → c .gates ≤ g
+    → o ≡ first (bad-output s (c .inputs) (c .gates)) (c .outputs) → o < c .outputs → Refused 6 o ≡ checked-of s c
+unfolding checked-of
+parts-output s c i g o ei hi eg hg eo h = rw (← ei, le-ltb i (c .inputs) hi, ← eg, le-ltb g (c .gates) hg, ← eo, lt-ltb o (c .outputs) h)
+
+pub parts-good : (s : List ℕ) (c : Counts) (i g o : ℕ) → i ≡ first (bad-owner s) (c .inputs) → c .inputs ≤ i → g ≡ first (bad-gate s (c .inputs)) (c .gates) → c .gates ≤ g
+    → o ≡ first (bad-output s (c .inputs) (c .gates)) (c .outputs) → c .outputs ≤ o → Good c ≡ checked-of s c
+unfolding checked-of
+parts-good s c i g o ei hi eg hg eo h = rw (← ei, le-ltb i (c .inputs) hi, ← eg, le-ltb g (c .gates) hg, ← eo, le-ltb o (c .outputs) h)
+
+-- nothing bad is found: everything is good
+all-good : (s : List ℕ) (c : Counts) → Opened s c → c .inputs ≤ first (bad-owner s) (c .inputs) → c .gates ≤ first (bad-gate s (c .inputs)) (c .gates)
+    → c .outputs ≤ first (bad-output s (c .inputs) (c .gates)) (c .outputs) → Checked s c
+unfolding bad-owner bad-gate bad-kind bad-output
+all-good s c o hi hg ho = record {
+  opened = o;
+  owners = λ k l. not-false _ (first-clear (bad-owner s) (c .inputs) hi k l);
+  gates = λ k l. not-false _ (first-clear (bad-gate s (c .inputs)) (c .gates) hg k l);
+  outputs = λ k l. ltb-true _ _ (not-false _ (first-clear (bad-output s (c .inputs) (c .gates)) (c .outputs) ho k l));
+}
+
+-- the verdict of checks 4 to 6 on an opened file
+module _ (s : List ℕ) (c : Counts) (o : Opened s c) where
+  parts-verdict : (ns : List ℕ) → verdict (given-of (Check s)) (4 ∷ 5 ∷ 6 ∷ [])
+      ≡ cond (ltb (first (bad-owner s) (c .inputs)) (c .inputs)) (refuses 4 (first (bad-owner s) (c .inputs)))
+      (cond (ltb (first (bad-gate s (c .inputs)) (c .gates)) (c .gates)) (refuses 5 (first (bad-gate s (c .inputs)) (c .gates)))
+      (cond (ltb (first (bad-output s (c .inputs) (c .gates)) (c .outputs)) (c .outputs)) (refuses 6 (first (bad-output s (c .inputs) (c .gates)) (c .outputs)))
+      accepted))
+  unfolding verdict fault row refusal-table row-owner row-gate row-output given-of bad-owner bad-gate bad-kind bad-output
+  parts-verdict ns = rw (o .ins-are, o .gates-are, o .outs-are)
+
+  -- four ways out
+  by-parts : (a b d : Bool) (p q r : ℕ) → verdict (given-of (Check s)) (order (Check s)) ≡ cond a (refuses 4 p) (cond b (refuses 5 q) (cond d (refuses 6 r) accepted))
+      → answers (header-answer (cond a (Refused 4 p) (cond b (Refused 5 q) (cond d (Refused 6 r) (Good c))))) ≡ does (Check s)
+  unfolding header-answer lent-at-13 lent-before returned-refused when-good
+  by-parts true b d p q r e = only-answer 4 p (Check s) refl refl refl e
+  by-parts false true d p q r e = only-answer 5 q (Check s) refl refl refl e
+  by-parts false false true p q r e = only-answer 6 r (Check s) refl refl refl e
+  by-parts false false false p q r e =
+      (λ i. answers (good (o .ins-are i ∷ o .gates-are i ∷ o .outs-are i ∷ []))) ∙ sym (does-good (Check s) e)
+
+  pub check-law : header-of s ≡ Good c → answers (header-answer (checked-of s c)) ≡ does (Check s)
+  unfolding checked-of order concerns those-of stands-in given-of
+  check-law e = by-parts (ltb (first (bad-owner s) (c .inputs)) (c .inputs)) (ltb (first (bad-gate s (c .inputs)) (c .gates)) (c .gates))
+      (ltb (first (bad-output s (c .inputs) (c .gates)) (c .outputs)) (c .outputs)) _ _ _ (header-good (given-of (Check s)) (4 ∷ 5 ∷ 6 ∷ []) c e ∙ parts-verdict [])
+
+  -- what a good answer gives
+  pub checked-is : IsChecked (checked-of s c) s
+  unfolding checked-of
+  checked-is =
+      by-cases (ltb (first (bad-owner s) (c .inputs)) (c .inputs)) (ltb (first (bad-gate s (c .inputs)) (c .gates)) (c .gates))
+      (ltb (first (bad-output s (c .inputs) (c .gates)) (c .outputs)) (c .outputs)) refl refl refl
+    where
+      by-cases : (a b d : Bool) → ltb (first (bad-owner s) (c .inputs)) (c .inputs) ≡ a → ltb (first (bad-gate s (c .inputs)) (c .gates)) (c .gates) ≡ b
+          → ltb (first (bad-output s (c .inputs) (c .gates)) (c .outputs)) (c .outputs) ≡ d
+          → IsChecked (cond a (Refused 4 (first (bad-owner s) (c .inputs))) (cond b (Refused 5 (first (bad-gate s (c .inputs)) (c .gates)))
+          (cond d (Refused 6 (first (bad-output s (c .inputs) (c .gates)) (c .outputs))) (Good c)))) s
+      by-cases true b d ea eb ed = tt
+      by-cases false true d ea eb ed = tt
+      by-cases false false true ea eb ed = tt
+      by-cases false false false ea eb ed = all-good s c o (ltb-false _ _ ea) (ltb-false _ _ eb) (ltb-false _ _ ed)
+
+-- the header's refusal goes out as it came
+refused-out : (s : List ℕ) (n p : ℕ) → header-of s ≡ Refused n p → answers (header-answer (Refused n p)) ≡ does (Check s)
+unfolding header-answer order concerns those-of stands-in given-of lent-at-13 lent-before returned-refused
+refused-out s n p e = only-answer n p (Check s) refl refl refl (header-refused (given-of (Check s)) (4 ∷ 5 ∷ 6 ∷ []) n p e)
+
+pub check-out : (h : Header) (s : List ℕ) (n p : ℕ) → h ≡ header-of s → h ≡ Refused n p → (answers (header-answer h) ≡ does (Check s)) × IsChecked h s
+check-out h s n p e q =
+    (ap (λ (z : Header). answers (header-answer z)) q ∙ refused-out s n p (sym e ∙ q), subst (λ (z : Header). IsChecked z s) (sym q) tt)
+
+pub check-in : (h r : Header) (s : List ℕ) (c : Counts) → h ≡ header-of s → IsOpened h s → h ≡ Good c → r ≡ checked-of s c
+    → (answers (header-answer r) ≡ does (Check s)) × IsChecked r s
+check-in h r s c e o q a =
+    let op : Opened s c = opened-from h s c q o in
+    (ap (λ (z : Header). answers (header-answer z)) a ∙ check-law s c op (sym e ∙ q), subst (λ (z : Header). IsChecked z s) (sym a) (checked-is s c op))
+
+pub check-one : (s : List ℕ) (q r : Header) → answers (header-answer q) ≡ does (Check s) → answers (header-answer r) ≡ does (Check s) → q ≡ r
+check-one s q r a b = header-inj q r (ap (λ (z : After). z .answer) (a ∙ sym b))

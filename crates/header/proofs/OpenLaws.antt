@@ -1,0 +1,77 @@
+-- Opening as a call, and what every call over the header needs.
+--     only-answer      a refused call that is lent nothing answers its refusal and nothing else
+--     open-law         opening does what its call does
+--     opened-from      what a good header leaves
+--     open-one         two answers that meet the statement are equal
+-- Assumes nothing.
+use mathlib.Core.Path.{_≡_, refl, sym, ap, ap₂, _∙_, subst}
+use mathlib.Core.Bool.{Bool, true, false, cond, true≢false}
+use mathlib.Core.List.{List, [], _∷_}
+use Prim.Native.Nat.{ℕ}
+use lib.Dec.{eqb}
+use Rattle.scope.specs.Answer.{Answer, good, abort, refused, After}
+use Rattle.scope.specs.Checks.{Verdict, accepted, refuses, verdict}
+use Rattle.scope.specs.Refusal.{stands-in, those-of}
+use Rattle.scope.specs.Calls.{Call, Open, given-of, concerns, order, answers, when-good, when-refused, lent-before, lent-at-13, returned-refused, does}
+use Rattle.scope.proofs.CallLaws.{does-good, does-refused}
+use Rattle.header.specs.declared.Counts.{Counts}
+use Rattle.header.specs.declared.Header.{Header}
+use Rattle.header.specs.declared.Header.the-variants.{Good as HeaderGood, Refused as HeaderRefused}
+use Rattle.header.specs.Answers.{header-answer}
+use Rattle.header.specs.Mirror.{header-of, Opened, IsOpened}
+use Rattle.header.proofs.HeaderLaws.{header-refused, header-good}
+
+abbrev refuses-it : Answer → Bool
+refuses-it (good l) = false
+refuses-it (abort o m) = false
+refuses-it (refused n p) = true
+
+pub good-is-not-refused : (l : List ℕ) (n p : ℕ) → ¬ (good l ≡ refused n p)
+good-is-not-refused l n p e = true≢false (sym (ap refuses-it e))
+
+cond-same : {A : Type 0} (b : Bool) (x : A) → cond b x x ≡ x
+cond-same true x = refl
+cond-same false x = refl
+
+-- a refused call that is lent nothing answers its refusal and nothing else
+module _ (n p : ℕ) where
+  pub only-answer : (c : Call) → lent-at-13 c ≡ [] → lent-before c ≡ [] → returned-refused c n p ≡ [] → verdict (given-of c) (order c) ≡ refuses n p → answers (refused n p) ≡ does c
+  unfolding when-refused
+  only-answer c e13 e r v =
+      sym (does-refused c n p v
+      ∙ (λ i. record { answer = refused n p; returned = r i; lent = (ap₂ (λ (x y : List (List ℕ)). cond (eqb n 13) x y) e13 e ∙ cond-same (eqb n 13) []) i }))
+
+  open-refuses : (s : List ℕ) → verdict (given-of (Open s)) (order (Open s)) ≡ refuses n p → answers (header-answer (HeaderRefused n p)) ≡ does (Open s)
+  unfolding header-answer lent-at-13 lent-before returned-refused
+  open-refuses s = only-answer (Open s) refl refl refl
+
+open-verdict : (s : List ℕ) (n p : ℕ) → header-of s ≡ HeaderRefused n p → verdict (given-of (Open s)) (order (Open s)) ≡ refuses n p
+unfolding order concerns those-of stands-in given-of
+open-verdict s n p e = header-refused (given-of (Open s)) [] n p e
+
+open-good : (s : List ℕ) (c : Counts) → Opened s c → header-of s ≡ HeaderGood c → answers (header-answer (HeaderGood c)) ≡ does (Open s)
+unfolding header-answer when-good order concerns those-of stands-in given-of verdict
+open-good s c o e =
+    (λ i. answers (good (o .ins-are i ∷ o .gates-are i ∷ o .outs-are i ∷ [])))
+    ∙ sym (does-good (Open s) (header-good (given-of (Open s)) [] c e))
+
+pub open-law : (s : List ℕ) (h : Header) → h ≡ header-of s → IsOpened h s → answers (header-answer h) ≡ does (Open s)
+open-law s (HeaderGood c) e o = open-good s c o (sym e)
+open-law s (HeaderRefused n p) e o = open-refuses n p s (open-verdict s n p (sym e))
+
+pub opened-from : (h : Header) (s : List ℕ) (c : Counts) → h ≡ HeaderGood c → IsOpened h s → Opened s c
+opened-from h s c e o = subst (λ (z : Header). IsOpened z s) e o
+
+pub header-inj : (q r : Header) → header-answer q ≡ header-answer r → q ≡ r
+unfolding header-answer
+header-inj (HeaderGood c) (HeaderGood c′) e =
+    let i : c .inputs ≡ c′ .inputs = cc in
+    let g : c .gates ≡ c′ .gates = cc in
+    let o : c .outputs ≡ c′ .outputs = cc in
+    λ j. HeaderGood (record { inputs = i j; gates = g j; outputs = o j })
+header-inj (HeaderGood c) (HeaderRefused n p) e = absurd (good-is-not-refused _ n p e)
+header-inj (HeaderRefused n p) (HeaderGood c) e = absurd (good-is-not-refused _ n p (sym e))
+header-inj (HeaderRefused n p) (HeaderRefused n′ p′) e = cc
+
+pub open-one : (s : List ℕ) (q r : Header) → answers (header-answer q) ≡ does (Open s) → answers (header-answer r) ≡ does (Open s) → q ≡ r
+open-one s q r a b = header-inj q r (ap (λ (z : After). z .answer) (a ∙ sym b))

@@ -1,0 +1,117 @@
+// The circuit file's numbers and its header, read from the caller's slice: checks 1 to 3.
+ghost use mathlib.Core.Path.{_≡_};
+ghost use Prim.Native.Nat.{ℕ, _+_, _*_, _<_, _≤_};
+ghost use lib.ListN.{length};
+ghost use Rattle.scope.specs.File.{le16, le32};
+ghost use Rattle.scope.specs.Calls.{Open, answers, does};
+ghost use Rattle.header.specs.Answers.{header-answer};
+ghost use Rattle.header.specs.Mirror.{judged, header-of, Fine, IsOpened};
+
+// The counts of a file whose header is good.
+pub struct Counts {
+    pub inputs: usize,
+    pub gates: usize,
+    pub outputs: usize,
+}
+
+// The header's answer: the counts, or the refusal's number and place.
+pub enum Header {
+    Good(Counts),
+    Refused(usize, usize),
+}
+
+// A byte and a pair of bytes, widened: that they are small is said here once.
+fn wide16(x: u8) -> u16
+    ensures { λ r. ⌜ (r ≡ x) × (r < 256) ⌝ }
+{
+    x as u16
+}
+
+fn wide32(x: u16) -> u32
+    ensures { λ r. ⌜ (r ≡ x) × (r < 65536) ⌝ }
+{
+    x as u32
+}
+
+// Two bytes and four, the lowest first.
+pub fn u16_at(file: &[u8], at: usize) -> u16
+    requires { ⌜ at + 2 ≤ length (now file) ⌝ }
+    ensures { λ r. ⌜ r ≡ le16 (now (file .entry)) at ⌝ }
+{
+    wide16(file[at]) + 256 * wide16(file[at + 1])
+}
+
+pub fn u32_at(file: &[u8], at: usize) -> u32
+    requires { ⌜ at + 4 ≤ length (now file) ⌝ }
+    ensures { λ r. ⌜ r ≡ le32 (now (file .entry)) at ⌝ }
+{
+    wide32(u16_at(file, at)) + 65536 * wide32(u16_at(file, at + 2))
+}
+
+// Checks 2 and 3 on the header's eight numbers. The limits come first, so no sum can wrap.
+fn judge(len: usize, n: u32, i: u32, g: u32, o: u32, p: u32, q: u32, r: u32, z: u32) -> Header
+    ensures { λ h. ⌜ h ≡ judged len n i g o p q r z ⌝ }
+    ensures { λ h. ⌜ Fine h len i g o ⌝ }
+{
+    if i > 1024 {
+        return Header::Refused(2, 0);
+    }
+    if g > 3072 {
+        return Header::Refused(2, 1);
+    }
+    if o > 256 {
+        return Header::Refused(2, 2);
+    }
+    if n != 32 + i + 6 * g + 2 * o {
+        return Header::Refused(3, 0);
+    }
+    let whole = n as usize;
+    if len != whole {
+        return Header::Refused(3, 0);
+    }
+    if p != 32 {
+        return Header::Refused(3, 16);
+    }
+    if q != 32 + i {
+        return Header::Refused(3, 20);
+    }
+    if r != 32 + i + 6 * g {
+        return Header::Refused(3, 24);
+    }
+    if z != 0 {
+        return Header::Refused(3, 28);
+    }
+    Header::Good(Counts {
+        inputs: i as usize,
+        gates: g as usize,
+        outputs: o as usize,
+    })
+}
+
+// Checks 1 to 3.
+pub fn read_header(file: &[u8]) -> Header
+    ensures { λ r. ⌜ r ≡ header-of (now (file .entry)) ⌝ }
+    ensures { λ r. ⌜ IsOpened r (now (file .entry)) ⌝ }
+{
+    if file.len() < 32 {
+        return Header::Refused(1, 0);
+    }
+    judge(
+        file.len(),
+        u32_at(file, 0),
+        u32_at(file, 4),
+        u32_at(file, 8),
+        u32_at(file, 12),
+        u32_at(file, 16),
+        u32_at(file, 20),
+        u32_at(file, 24),
+        u32_at(file, 28),
+    )
+}
+
+// PUBLIC. The reader is opened by checks 1 to 3.
+pub fn open_file(file: &[u8]) -> Header
+    ensures { λ r. ⌜ answers (header-answer r) ≡ does (Open (now (file .entry))) ⌝ }
+{
+    read_header(file)
+}

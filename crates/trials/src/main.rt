@@ -1,0 +1,31 @@
+// Reads a stream of calls from standard input, makes each of them and prints what it answers. docs/TRIALS.md has the form of both.
+mod input;
+mod print;
+mod single;
+
+use input::Read;
+
+// Makes the next call, and answers whether to go on. Its number is judged before anything more is read.
+fn call() -> bool {
+    let first = input::byte();
+    let Read::Is(which) = first else {
+        return false;
+    };
+    if which < 1 || which > 5 {
+        print::word(b"unknown call\n");
+        return false;
+    }
+    let asked = input::number();
+    let Read::Is(number) = asked else {
+        return false;
+    };
+    single::call(which, number)
+}
+
+// A proved loop has to end, and nothing says that a stream does. So the loop counts its turns down, from a number that no stream uses up.
+fn main() {
+    let mut turns = u64::MAX;
+    while turns > 0 && call() {
+        turns -= 1;
+    }
+}
