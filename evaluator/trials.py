@@ -4,7 +4,7 @@
     python3 -B evaluator/trials.py check
 
 The stream has the edges by name and some thousands of damaged files, through
-open, gate, owner, output and check.  `check` holds crates/trials/stdin to the
+open, gate, owner, output, check and traffic.  `check` holds crates/trials/stdin to the
 stream made anew and crates/trials/stdout to what the evaluator prints for it,
 and sees that every refusal occurs at every kind of place.
 """
@@ -22,6 +22,7 @@ import damage  # noqa: E402
 
 CRATE = os.path.join(check.HERE, os.pardir, "crates", "trials")
 SEED = 20261
+SINGLE = [*damage.NAMES[:5], "traffic"]  # the calls that take one slice
 QUESTIONS = {"owner": 4, "gate": 5, "output": 6}
 HEADER_PLACES = [(1, 0), (2, 0), (2, 1), (2, 2),
                  (3, 0), (3, 16), (3, 20), (3, 24), (3, 28)]
@@ -81,6 +82,7 @@ def all_calls(file):
     inputs, gates, outputs = counts_of(file)
     yield case("open", file)
     yield case("check", file)
+    yield case("traffic", file)
     for name, count in (("gate", gates), ("owner", inputs),
                         ("output", outputs)):
         numbers = numbers_at(count)
@@ -96,7 +98,7 @@ def some_calls(rng, file):
     """A file through check and, for one of three, through another call."""
     yield case("check", file)
     if rng.randrange(3) == 0:
-        name = rng.choice(["open", "gate", "owner", "output"])
+        name = rng.choice(["open", "gate", "owner", "output", "traffic", "traffic"])
         yield case(name, file, rng.choice([0, 1, 2, 5, 65536]))
 
 
@@ -238,7 +240,7 @@ def any_parts(rng):
 def drawn_case(rng):
     """A call drawn and damaged as the evaluator's own test does it."""
     circuit = damage.draw_circuit(rng, *damage.draw_counts(rng))
-    drawn = damage.draw_call(rng, rng.choice(damage.NAMES[:5]), circuit)
+    drawn = damage.draw_call(rng, rng.choice(SINGLE), circuit)
     for _ in range(rng.choice([1, 1, 2, 3])):
         damage.damage(rng, drawn)
     return case(drawn["call"], drawn["file"], drawn["number"])
@@ -271,11 +273,11 @@ def fail(text):
 def needed():
     """Each call's answers: good, and each refusal at each kind of place."""
     found = set()
-    for name in damage.NAMES[:5]:
+    for name in SINGLE:
         found |= {(name, "good", "")}
         found |= {(name, *refusal) for refusal in HEADER_PLACES}
     for name, refusal in QUESTIONS.items():
-        found |= {("check", refusal, kind)
+        found |= {(call, refusal, kind) for call in ("check", "traffic")
                   for kind in ("first", "above 0", "last")}
         found |= {(name, refusal, "the count")}
     return found
@@ -291,7 +293,7 @@ def kinds_of(each, answer):
         return {(name, refusal, place)}
     inputs, gates, outputs = counts_of(each["file"])
     count = {4: inputs, 5: gates, 6: outputs}[refusal]
-    if name != "check":
+    if name in QUESTIONS:
         return {(name, refusal, "the count")} if place == count else set()
     kinds = {"above 0"} if place else {"first"}
     if 0 < place == count - 1:
@@ -309,12 +311,11 @@ def held(name, wanted, whose):
         fail(f"crates/trials/{name} is not what {whose}")
 
 
-def check_answers(every, answers):
-    if len(every) != len(answers):
-        fail(f"{len(every)} calls and {len(answers)} answers")
+def check_answers(every, text):
     missing = needed()
-    for n, (each, answer) in enumerate(zip(every, answers)):
-        wrong = damage.wrong(each, answer, [])
+    for n, (each, (answer, lines)) in enumerate(
+            zip(every, check.texts_of(every, text))):
+        wrong = damage.wrong(each, answer, lines)
         if wrong:
             fail(f"call {n}, '{answer}': {wrong}")
         missing -= kinds_of(each, answer)
@@ -333,7 +334,7 @@ def check_all():
         text = check.printed(program, stream)
     held("stdin", stream, "trials.py makes")
     held("stdout", text.encode(), "the evaluator prints")
-    check_answers(every, text.splitlines())
+    check_answers(every, text)
     print(f"trials ok, {len(every)} calls")
 
 

@@ -11,7 +11,7 @@ fn call() -> bool {
     let Read::Is(which) = first else {
         return false;
     };
-    if which < 1 || which > 5 {
+    if which < 1 || (which > 5 && which != 10) {
         print::word(b"unknown call\n");
         return false;
     }

@@ -17,14 +17,15 @@ pub fn call(which: usize, number: usize) -> bool {
     got.whole
 }
 
-// The call by its number; what is none of 1 to 4 is 5.
+// The call by its number; what is none of 1 to 5 is 10.
 fn answer(which: usize, number: usize, file: &[u8]) {
     match which {
         1 => open(file),
         2 => gate(file, number),
         3 => owner(file, number),
         4 => output(file, number),
-        _ => check(file),
+        5 => check(file),
+        _ => table(file),
     }
 }
 
@@ -72,4 +73,28 @@ fn output(file: &[u8], k: usize) {
 fn check(file: &[u8]) {
     print::word(b"check");
     header(checks::check_file(file));
+}
+
+// The traffic table, which is printed whatever the answer is.
+fn table(file: &[u8]) {
+    let mut number: usize = 0;
+    let mut place: usize = 0;
+    let t = traffic::traffic_of(file, &mut number, &mut place);
+    print::word(b"traffic");
+    if number == 0 {
+        print::word(b" good\n");
+    } else {
+        print::refused(number, place);
+    }
+    row(t[0]);
+    row(t[1]);
+    row(t[2]);
+}
+
+fn row(r: [u32; 3]) {
+    print::word(b"row");
+    print::number(r[0] as usize);
+    print::number(r[1] as usize);
+    print::number(r[2] as usize);
+    print::word(b"\n");
 }

@@ -1,0 +1,269 @@
+-- Tables of sums, and the traffic call.
+--     plus-tables        the sum of two tables is the table of the sums
+--     under-sums, sums-none, sums-turn, sums-end    the first k steps add at most 2 to an entry each; none, one more, all
+--     input-sum, gate-sum, output-sum    one step, as the code makes it
+--     traffic-out, traffic-in    the call, by the check's answer
+-- Assumes nothing.
+use mathlib.Core.Path.{_≡_, refl, sym, ap, ap₂, _∙_, subst}
+use mathlib.Core.Bool.{Bool, true, false, cond, not, _&&_}
+use mathlib.Core.List.{List, [], _∷_}
+use Prim.Native.Nat.{ℕ, zero, suc, _+_, _*_, _≤_, _<_}
+use native.Mathlib.Omega.{arith}
+use native.Mathlib.Numerals.{add-one}
+use native.Mathlib.Nat.{le-antisymm}
+use lib.ListN.{getD}
+use lib.Dec.{eqb}
+use Rattle.sharing.specs.Sites.{Site, s1, s2, s3, next, is}
+use Rattle.sharing.specs.Circuit.{Gate, XOR, AND, OR, NOT, dealing}
+use Rattle.sharing.specs.Traffic.{input-adds, gate-adds, output-adds, sum, entry, traffic-table, no-table}
+use Rattle.scope.specs.File.{circuit, site-of, owner-at, inputs-of, gates-of, outputs-of}
+use Rattle.scope.specs.Answer.{Answer, good, refused, number-of, After}
+use Rattle.scope.specs.Checks.{accepted, refuses, verdict}
+use Rattle.scope.specs.Refusal.{stands-in, those-of}
+use Rattle.scope.specs.Calls.{Call, Check, Traffic, given-of, concerns, order, answers, when-good, when-refused, lent-before, lent-at-13, returned-refused, does}
+use Rattle.scope.proofs.CallLaws.{does-good, does-refused, refused-verdict, good-accepts, accepts-passes}
+use Rattle.scope.proofs.Refusals.{passes-accepted}
+use Rattle.circuit.specs.declared.Owner.{Owner}
+use Rattle.circuit.specs.declared.Owner.the-variants.{Is as OwnerIs}
+use Rattle.circuit.specs.Mirror.{owner-by}
+use Rattle.circuit.proofs.ReaderLaws.{owner-some}
+use Rattle.header.specs.declared.Counts.{Counts}
+use Rattle.header.specs.declared.Header.{Header}
+use Rattle.header.specs.declared.Header.the-variants.{Good, Refused}
+use Rattle.header.specs.Answers.{header-answer}
+use Rattle.header.specs.Mirror.{Opened}
+use Rattle.checks.specs.Mirror.{Checked, IsChecked}
+use Rattle.traffic.specs.Answers.{place-of}
+use Rattle.traffic.specs.declared.Refusal.{Refusal}
+use Rattle.traffic.specs.Mirror.{table-of, plus, Under, from-input, from-gate, from-output, input-steps, gate-steps, output-steps, sums-upto, refusal-by}
+
+pub plus-tables : (f g : Site → Site → ℕ) → plus (table-of f) (table-of g) ≡ table-of (λ a b. f a b + g a b)
+unfolding plus
+plus-tables f g = refl
+
+pub under-table : (f : Site → Site → ℕ) (n : ℕ) → ((a b : Site) → f a b ≤ n) → Under (table-of f) n
+under-table f n h = record {
+  u00 = h s1 s1;
+  u01 = h s1 s2;
+  u02 = h s1 s3;
+  u10 = h s2 s1;
+  u11 = h s2 s2;
+  u12 = h s2 s3;
+  u20 = h s3 s1;
+  u21 = h s3 s2;
+  u22 = h s3 s3;
+}
+
+pub sum-most : (f : ℕ → ℕ) → ((k : ℕ) → f k ≤ 2) → (n : ℕ) → sum f n ≤ 2 * n
+unfolding sum
+sum-most f h zero = omega arith
+sum-most f h (suc n) = let a = sum-most f h n in let b = h n in omega arith
+
+at-most : (b : Bool) → cond b 2 0 ≤ 2
+at-most true = omega arith
+at-most false = omega arith
+
+pub input-most : (s a b : Site) → input-adds s a b ≤ 2
+unfolding input-adds
+input-most s a b = at-most (is s a && not (is a b))
+
+gate-cond : (b : Bool) → cond b 0 2 ≤ 2
+gate-cond true = omega arith
+gate-cond false = omega arith
+
+pub gate-most : (k : Gate) (a b : Site) → gate-adds k a b ≤ 2
+unfolding gate-adds dealing
+gate-most (XOR i j) a b = omega arith
+gate-most (AND i j) a b = let h = gate-cond (is a b) in omega arith
+gate-most (OR i j) a b = let h = gate-cond (is a b) in omega arith
+gate-most (NOT i) a b = omega arith
+
+out-cond : (b : Bool) → cond b 1 0 ≤ 2
+out-cond true = omega arith
+out-cond false = omega arith
+
+pub output-most : (a b : Site) → output-adds a b ≤ 2
+unfolding output-adds
+output-most a b = out-cond (is a (next b))
+
+under-more : (t : List (List ℕ)) (m n : ℕ) → m ≤ n → Under t m → Under t n
+under-more t m n h u = record {
+  u00 = let k = u .u00 in omega arith;
+  u01 = let k = u .u01 in omega arith;
+  u02 = let k = u .u02 in omega arith;
+  u10 = let k = u .u10 in omega arith;
+  u11 = let k = u .u11 in omega arith;
+  u12 = let k = u .u12 in omega arith;
+  u20 = let k = u .u20 in omega arith;
+  u21 = let k = u .u21 in omega arith;
+  u22 = let k = u .u22 in omega arith;
+}
+
+-- what one step adds is small
+under-by : (f : Site → Site → ℕ) → ((a b : Site) → f a b ≤ 2) → Under (table-of f) 16384
+under-by f h = under-more _ 2 16384 (omega arith) (under-table f 2 h)
+
+pub under-room : (t : List (List ℕ)) → Under t 8192 → Under t 16384
+under-room t u = under-more t 8192 16384 (omega arith) u
+
+pub under-input : (o : ℕ) (m : List (List ℕ)) → m ≡ from-input o → Under m 16384
+unfolding from-input
+under-input o m e = subst (λ (z : List (List ℕ)). Under z 16384) (sym e) (under-by (input-adds (site-of o)) (λ a b. input-most (site-of o) a b))
+
+pub under-gate : (d : ℕ) (m : List (List ℕ)) → m ≡ from-gate d → Under m 16384
+unfolding from-gate
+under-gate d m e = subst (λ (z : List (List ℕ)). Under z 16384) (sym e) (go (eqb d 1))
+  where
+    go : (b : Bool) → Under (cond b (table-of (λ a b. cond (is a b) 0 2)) (table-of (λ a b. 0))) 16384
+    go true = under-by (λ a b. cond (is a b) 0 2) (λ a b. gate-cond (is a b))
+    go false = under-by (λ a b. 0) (λ a b. omega arith)
+
+pub under-output : (m : List (List ℕ)) → m ≡ from-output → Under m 16384
+unfolding from-output
+under-output m e = subst (λ (z : List (List ℕ)). Under z 16384) (sym e) (under-by output-adds output-most)
+
+-- the sums of the first k steps, for any steps
+module _ (F : ℕ → Site → Site → ℕ) where
+  pub under-sums : ((i : ℕ) (a b : Site) → F i a b ≤ 2) → (k n : ℕ) (t : List (List ℕ)) → t ≡ sums-upto F k → 2 * k ≤ n → Under t n
+  unfolding sums-upto
+  under-sums m k n t e h =
+      subst (λ (z : List (List ℕ)). Under z n) (sym e)
+      (under-more _ (2 * k) n h (under-table (λ a b. sum (λ i. F i a b) k) (2 * k) (λ a b. sum-most (λ i. F i a b) (λ i. m i a b) k)))
+
+  pub sums-none : no-table ≡ sums-upto F 0
+  unfolding sums-upto sum
+  sums-none = refl
+
+  pub sums-turn : (k : ℕ) (t u : List (List ℕ)) → t ≡ sums-upto F k → u ≡ plus t (table-of (F k)) → u ≡ sums-upto F (k + 1)
+  unfolding sums-upto sum
+  sums-turn k t u e q =
+      q ∙ ap (λ (z : List (List ℕ)). plus z (table-of (F k))) e ∙ plus-tables (λ a b. sum (λ i. F i a b) k) (F k) ∙ ap (sums-upto F) (sym (add-one k))
+
+  pub sums-end : (t : List (List ℕ)) (k n : ℕ) → t ≡ sums-upto F k → k ≤ n → n ≤ k → t ≡ sums-upto F n
+  sums-end t k n e a b = e ∙ ap (sums-upto F) (le-antisymm a b)
+
+pub input-few : (s : List ℕ) (i : ℕ) (a b : Site) → input-steps s i a b ≤ 2
+input-few s i a b = input-most (circuit s .owner i) a b
+
+pub gate-few : (s : List ℕ) (g : ℕ) (a b : Site) → gate-steps s g a b ≤ 2
+gate-few s g a b = gate-most (circuit s .gate g) a b
+
+pub output-few : (o : ℕ) (a b : Site) → output-steps o a b ≤ 2
+output-few o a b = output-most a b
+
+-- what an input adds, by its owner's byte
+pub input-one : (o : ℕ) → o ≡ 1 → (0 ∷ 2 ∷ 2 ∷ []) ∷ (0 ∷ 0 ∷ 0 ∷ []) ∷ (0 ∷ 0 ∷ 0 ∷ []) ∷ [] ≡ from-input o
+unfolding from-input input-adds is site-of
+input-one o e = rw e
+
+pub input-two : (o : ℕ) → o ≡ 2 → (0 ∷ 0 ∷ 0 ∷ []) ∷ (2 ∷ 0 ∷ 2 ∷ []) ∷ (0 ∷ 0 ∷ 0 ∷ []) ∷ [] ≡ from-input o
+unfolding from-input input-adds is site-of
+input-two o e = rw e
+
+pub input-three : (o : ℕ) → (o ≡ 1 → ⊥) → (o ≡ 2 → ⊥) → (0 ∷ 0 ∷ 0 ∷ []) ∷ (0 ∷ 0 ∷ 0 ∷ []) ∷ (2 ∷ 2 ∷ 0 ∷ []) ∷ [] ≡ from-input o
+unfolding from-input input-adds is site-of
+input-three zero p q = refl
+input-three (suc zero) p q = absurd (p refl)
+input-three (suc (suc zero)) p q = absurd (q refl)
+input-three (suc (suc (suc n))) p q = refl
+
+-- what a gate adds, by whether it deals
+pub gate-table : (k : Gate) (d : ℕ) → d ≡ dealing k → from-gate d ≡ table-of (gate-adds k)
+unfolding from-gate gate-adds dealing is
+gate-table (XOR i j) d e = rw e
+gate-table (AND i j) d e = rw e
+gate-table (OR i j) d e = rw e
+gate-table (NOT i) d e = rw e
+
+pub gate-sum : (k : Gate) (d : ℕ) (t m r : List (List ℕ)) → d ≡ dealing k → m ≡ from-gate d → r ≡ plus t m → r ≡ plus t (table-of (gate-adds k))
+gate-sum k d t m r e q a = a ∙ ap (plus t) (q ∙ gate-table k d e)
+
+pub input-sum : (s : List ℕ) (c : Counts) (k o : ℕ) (a : Owner) (t m r : List (List ℕ)) → a ≡ owner-by s c k → a ≡ OwnerIs o → k < c .inputs → m ≡ from-input o → r ≡ plus t m
+    → r ≡ plus t (table-of (input-adds (circuit s .owner k)))
+unfolding from-input
+input-sum s c k o a t m r e q h em er = er ∙ ap (plus t) (em ∙ ap from-input (owner-some s c k o a e q h))
+
+pub output-sum : (t m r : List (List ℕ)) → m ≡ from-output → r ≡ plus t m → r ≡ plus t (table-of output-adds)
+unfolding from-output
+output-sum t m r e a = a ∙ ap (plus t) e
+
+-- two sums together, and all three
+pub under-both : (F H : ℕ → Site → Site → ℕ) → ((i : ℕ) (a b : Site) → F i a b ≤ 2) → ((i : ℕ) (a b : Site) → H i a b ≤ 2) → (i g : ℕ) (x y r : List (List ℕ))
+    → x ≡ sums-upto F i → y ≡ sums-upto H g → i ≤ 1024 → g ≤ 3072 → r ≡ plus x y → Under r 16384
+unfolding sums-upto
+under-both F H mF mH i g x y r ex ey hi hg e =
+    let f : Site → Site → ℕ = λ a b. sum (λ k. F k a b) i in
+    let h : Site → Site → ℕ = λ a b. sum (λ k. H k a b) g in
+    let small : (a b : Site) → f a b + h a b ≤ 16384 = λ a b. (let p = sum-most (λ k. F k a b) (λ k. mF k a b) i in let q = sum-most (λ k. H k a b) (λ k. mH k a b) g in omega arith) in
+    subst (λ (z : List (List ℕ)). Under z 16384) (sym (e ∙ ap₂ plus ex ey ∙ plus-tables f h)) (under-table (λ a b. f a b + h a b) 16384 small)
+
+pub whole-is : (s : List ℕ) (c : Counts) (i g o ig r : List (List ℕ)) → Opened s c → i ≡ sums-upto (input-steps s) (c .inputs) → g ≡ sums-upto (gate-steps s) (c .gates)
+    → o ≡ sums-upto output-steps (c .outputs) → ig ≡ plus i g → r ≡ plus ig o → r ≡ traffic-table (circuit s)
+unfolding sums-upto traffic-table entry
+whole-is s c i g o ig r op ei eg eo e1 e2 =
+    let f : Site → Site → ℕ = λ a b. sum (λ k. input-steps s k a b) (inputs-of s) in
+    let h : Site → Site → ℕ = λ a b. sum (λ k. gate-steps s k a b) (gates-of s) in
+    let w : Site → Site → ℕ = λ a b. sum (λ k. output-steps k a b) (outputs-of s) in
+    e2
+    ∙ ap₂ plus
+    (e1 ∙ ap₂ plus (ei ∙ ap (sums-upto (input-steps s)) (op .ins-are)) (eg ∙ ap (sums-upto (gate-steps s)) (op .gates-are)) ∙ plus-tables f h)
+    (eo ∙ ap (sums-upto output-steps) (op .outs-are))
+    ∙ plus-tables (λ a b. f a b + h a b) w
+
+same-either : {A : Type 0} (b : Bool) (x : A) → cond b x x ≡ x
+same-either true x = refl
+same-either false x = refl
+
+gone : (s : List ℕ) (n p : ℕ) → verdict (given-of (Traffic s)) (order (Traffic s)) ≡ refuses n p → does (Traffic s) ≡ record { answer = refused n p; returned = no-table; lent = [] }
+unfolding returned-refused when-refused lent-at-13 lent-before
+gone s n p v = does-refused (Traffic s) n p v ∙ (λ i. record { answer = refused n p; returned = no-table; lent = same-either (eqb n 13) [] i })
+
+-- the call, by the check's answer
+module _ (s : List ℕ) (h : Header) (e : answers (header-answer h) ≡ does (Check s)) where
+  check-refused : (n p : ℕ) → h ≡ Refused n p → verdict (given-of (Check s)) (order (Check s)) ≡ refuses n p
+  unfolding header-answer
+  check-refused n p q = refused-verdict (Check s) n p (ap (λ (z : After). z .answer) (sym e) ∙ ap header-answer q)
+
+  check-accepted : (c : Counts) → h ≡ Good c → verdict (given-of (Check s)) (order (Check s)) ≡ accepted
+  unfolding header-answer
+  check-accepted c q = passes-accepted (given-of (Check s)) (order (Check s)) (accepts-passes (Check s) (good-accepts (Check s) _ (ap (λ (z : After). z .answer) (sym e) ∙ ap header-answer q)))
+
+  same : verdict (given-of (Traffic s)) (order (Traffic s)) ≡ verdict (given-of (Check s)) (order (Check s))
+  unfolding given-of order concerns
+  same = refl
+
+  pub traffic-refused : (n p : ℕ) → h ≡ Refused n p → does (Traffic s) ≡ record { answer = refused n p; returned = no-table; lent = [] }
+  traffic-refused n p q = gone s n p (same ∙ check-refused n p q)
+
+  pub traffic-good : (c : Counts) → h ≡ Good c → does (Traffic s) ≡ record { answer = good []; returned = traffic-table (circuit s); lent = [] }
+  unfolding when-good
+  traffic-good c q = does-good (Traffic s) (same ∙ check-accepted c q)
+
+-- what the code leaves in the two numbers, and returns
+pub numbers-are : (s : List ℕ) (h : Header) (r : Refusal) → answers (header-answer h) ≡ does (Check s) → r ≡ refusal-by h
+    → (r .number ≡ number-of (does (Traffic s) .answer)) × (r .place ≡ place-of (does (Traffic s) .answer))
+unfolding number-of place-of
+numbers-are s (Good c) r e q = (
+  ap (λ (z : Refusal). z .number) q ∙ ap (λ (z : After). number-of (z .answer)) (sym (traffic-good s (Good c) e c refl)),
+  ap (λ (z : Refusal). z .place) q ∙ ap (λ (z : After). place-of (z .answer)) (sym (traffic-good s (Good c) e c refl)),
+)
+numbers-are s (Refused n p) r e q = (
+  ap (λ (z : Refusal). z .number) q ∙ ap (λ (z : After). number-of (z .answer)) (sym (traffic-refused s (Refused n p) e n p refl)),
+  ap (λ (z : Refusal). z .place) q ∙ ap (λ (z : After). place-of (z .answer)) (sym (traffic-refused s (Refused n p) e n p refl)),
+)
+
+pub zeros-are : (s : List ℕ) (h : Header) (n p : ℕ) → answers (header-answer h) ≡ does (Check s) → h ≡ Refused n p → no-table ≡ does (Traffic s) .returned
+zeros-are s h n p e q = ap (λ (z : After). z .returned) (sym (traffic-refused s h e n p q))
+
+pub table-is : (s : List ℕ) (h : Header) (c : Counts) (r : List (List ℕ)) → answers (header-answer h) ≡ does (Check s) → h ≡ Good c → r ≡ traffic-table (circuit s) → r ≡ does (Traffic s) .returned
+table-is s h c r e q m = m ∙ ap (λ (z : After). z .returned) (sym (traffic-good s h e c q))
+
+-- two results that meet the statement are equal
+pub traffic-one : (s : List ℕ) (t u : List (List ℕ)) (n m p q : ℕ)
+    → (t ≡ does (Traffic s) .returned) × (n ≡ number-of (does (Traffic s) .answer)) × (p ≡ place-of (does (Traffic s) .answer))
+    → (u ≡ does (Traffic s) .returned) × (m ≡ number-of (does (Traffic s) .answer)) × (q ≡ place-of (does (Traffic s) .answer))
+    → (t ≡ u) × (n ≡ m) × (p ≡ q)
+traffic-one s t u n m p q a b = (a .0 ∙ sym (b .0), a .1 ∙ sym (b .1), a .2 ∙ sym (b .2))
+
+pub checked-from : (h : Header) (s : List ℕ) (c : Counts) → h ≡ Good c → IsChecked h s → Opened s c
+checked-from h s c e k = (subst (λ (z : Header). IsChecked z s) e k) .opened

@@ -1,0 +1,27 @@
+use borrow.Author.Needs.{needs}
+use Rattle.traffic.proofs.TrafficCall.{numbers-are, zeros-are, table-is, checked-from}
+use Rattle.traffic.proofs.traffic_of.Statement.{statement}
+use Rattle.traffic.proofs.traffic_of.Tie as tie
+
+returns : tie.Need-returns
+returns c = let n = numbers-are _ _ _ (c .before .before .before .check-file .ensures .0) (c .before .before .refusal-of .ensures) in
+    (zeros-are _ _ _ _ (c .before .before .before .check-file .ensures .0) (c .enum-told .given .1), n)
+
+whole-table-requires : tie.Need-whole-table-requires
+whole-table-requires c κs = checked-from (c .before .before .before .before .check-file .result) _ _ (c .before .h .given .1) (c .before .before .before .before .check-file .ensures .1)
+
+returns-2 : tie.Need-returns-2
+returns-2 c = let n = numbers-are _ _ _ (c .before .before .before .before .before .check-file .ensures .0) (c .before .before .before .before .refusal-of .ensures) in
+    (table-is _ _ _ _ (c .before .before .before .before .before .check-file .ensures .0) (c .before .before .h .given .1) (c .whole-table .ensures), n)
+
+pub traffic-of-spec : {M : Type 1} → statement M
+traffic-of-spec =
+    tie.close
+    (tie.spec
+    (λ c κs. search needs)
+    (λ c κs. search needs)
+    (λ c. search needs)
+    (λ c. search needs)
+    returns
+    whole-table-requires
+    returns-2)

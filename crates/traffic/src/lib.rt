@@ -1,0 +1,181 @@
+// Traffic: a table of sent bits, three senders by three receivers, by value, filled step by step and returned.
+ghost use mathlib.Core.Path.{_≡_};
+ghost use Prim.Native.Nat.{ℕ, _+_, _*_, _<_, _≤_};
+ghost use Rattle.scope.specs.File.{circuit};
+ghost use Rattle.scope.specs.Answer.{number-of};
+ghost use Rattle.scope.specs.Calls.{Traffic, does};
+ghost use Rattle.sharing.specs.Traffic.{input-adds, gate-adds, output-adds, traffic-table};
+ghost use Rattle.header.specs.Mirror.{Opened};
+ghost use Rattle.traffic.specs.Answers.{place-of};
+ghost use Rattle.traffic.specs.Mirror.{table-of, plus, Under, from-input, from-gate, from-output, input-steps, gate-steps, output-steps, sums-upto, refusal-by};
+use circuit::Gate;
+use circuit::Owner;
+use header::Counts;
+use header::Header;
+
+// A refusal's number and place, 0 and 0 for none.
+struct Refusal {
+    number: usize,
+    place: usize,
+}
+
+// The sum of two tables, entry by entry.
+fn added(t: [[u32; 3]; 3], m: [[u32; 3]; 3]) -> [[u32; 3]; 3]
+    requires { ⌜ Under t 16384 × Under m 16384 ⌝ }
+    ensures { λ r. ⌜ r ≡ plus t m ⌝ }
+{
+    [
+        [t[0][0] + m[0][0], t[0][1] + m[0][1], t[0][2] + m[0][2]],
+        [t[1][0] + m[1][0], t[1][1] + m[1][1], t[1][2] + m[1][2]],
+        [t[2][0] + m[2][0], t[2][1] + m[2][1], t[2][2] + m[2][2]],
+    ]
+}
+
+// An input: 2 from its owner to each other site.
+fn input_adds(owner: u8) -> [[u32; 3]; 3]
+    ensures { λ r. ⌜ r ≡ from-input owner ⌝ }
+{
+    if owner == 1 {
+        return [[0, 2, 2], [0, 0, 0], [0, 0, 0]];
+    }
+    if owner == 2 {
+        return [[0, 0, 0], [2, 0, 2], [0, 0, 0]];
+    }
+    [[0, 0, 0], [0, 0, 0], [2, 2, 0]]
+}
+
+// An AND or OR: 2 for each ordered pair.
+fn gate_adds(deals: usize) -> [[u32; 3]; 3]
+    ensures { λ r. ⌜ r ≡ from-gate deals ⌝ }
+{
+    if deals == 1 {
+        return [[0, 2, 2], [2, 0, 2], [2, 2, 0]];
+    }
+    [[0, 0, 0], [0, 0, 0], [0, 0, 0]]
+}
+
+// An output: 1 from k+1 to k for each k. The comparing copy is left out.
+fn output_adds() -> [[u32; 3]; 3]
+    ensures { λ r. ⌜ r ≡ from-output ⌝ }
+{
+    [[0, 0, 1], [1, 0, 0], [0, 1, 0]]
+}
+
+// The table with one more input, gate or output.
+fn input_step(file: &[u8], c: Counts, k: usize, t: [[u32; 3]; 3]) -> [[u32; 3]; 3]
+    requires { ⌜ Opened (now file) c × (k < c .inputs) ⌝ }
+    requires { ⌜ Under t 8192 ⌝ }
+    ensures { λ r. ⌜ r ≡ plus t (table-of (input-adds (circuit (now (file .entry)) .owner k))) ⌝ }
+{
+    let a = circuit::owner_with(file, c, k);
+    let Owner::Is(o) = a else {
+        return t;
+    };
+    let m = input_adds(o);
+    added(t, m)
+}
+
+fn gate_step(file: &[u8], c: Counts, k: usize, t: [[u32; 3]; 3]) -> [[u32; 3]; 3]
+    requires { ⌜ Opened (now file) c × (k < c .gates) ⌝ }
+    requires { ⌜ Under t 8192 ⌝ }
+    ensures { λ r. ⌜ r ≡ plus t (table-of (gate-adds (circuit (now (file .entry)) .gate k))) ⌝ }
+{
+    let d = checks::gate_deals(file, c, k);
+    let m = gate_adds(d);
+    added(t, m)
+}
+
+fn output_step(t: [[u32; 3]; 3]) -> [[u32; 3]; 3]
+    requires { ⌜ Under t 8192 ⌝ }
+    ensures { λ r. ⌜ r ≡ plus t (table-of output-adds) ⌝ }
+{
+    let m = output_adds();
+    added(t, m)
+}
+
+// All inputs, all gates, all outputs.
+fn inputs_table(file: &[u8], c: Counts) -> [[u32; 3]; 3]
+    requires { ⌜ Opened (now file) c ⌝ }
+    ensures { λ r. ⌜ r ≡ sums-upto (input-steps (now (file .entry))) (c .inputs) ⌝ }
+{
+    let n = c.inputs;
+    let mut t = [[0u32; 3]; 3];
+    let mut k: usize = 0;
+    while k < n {
+        let u = input_step(file, c, k, t);
+        t = u;
+        k += 1;
+    }
+    t
+}
+
+fn gates_table(file: &[u8], c: Counts) -> [[u32; 3]; 3]
+    requires { ⌜ Opened (now file) c ⌝ }
+    ensures { λ r. ⌜ r ≡ sums-upto (gate-steps (now (file .entry))) (c .gates) ⌝ }
+{
+    let n = c.gates;
+    let mut t = [[0u32; 3]; 3];
+    let mut k: usize = 0;
+    while k < n {
+        let u = gate_step(file, c, k, t);
+        t = u;
+        k += 1;
+    }
+    t
+}
+
+fn outputs_table(n: usize) -> [[u32; 3]; 3]
+    requires { ⌜ n ≤ 256 ⌝ }
+    ensures { λ r. ⌜ r ≡ sums-upto output-steps n ⌝ }
+{
+    let mut t = [[0u32; 3]; 3];
+    let mut k: usize = 0;
+    while k < n {
+        let u = output_step(t);
+        t = u;
+        k += 1;
+    }
+    t
+}
+
+// The table of a circuit that was checked.
+fn whole_table(file: &[u8], c: Counts) -> [[u32; 3]; 3]
+    requires { ⌜ Opened (now file) c ⌝ }
+    ensures { λ r. ⌜ r ≡ traffic-table (circuit (now (file .entry))) ⌝ }
+{
+    let i = inputs_table(file, c);
+    let g = gates_table(file, c);
+    let o = outputs_table(c.outputs);
+    let ig = added(i, g);
+    added(ig, o)
+}
+
+// The two numbers of a header's answer: 0 and 0 where it is good.
+fn refusal_of(h: Header) -> Refusal
+    ensures { λ r. ⌜ r ≡ refusal-by h ⌝ }
+{
+    match h {
+        Header::Good(_) => Refusal {
+            number: 0,
+            place: 0,
+        },
+        Header::Refused(number, place) => Refusal { number, place },
+    }
+}
+
+// PUBLIC. The table, or all zeros. The answer goes out through two lent numbers, written in every case: 0 and 0 where the answer is good,
+// else the refusal's number and place.
+pub fn traffic_of(file: &[u8], number: &mut usize, place: &mut usize) -> [[u32; 3]; 3]
+    ensures { λ r. ⌜ r ≡ does (Traffic (now (file .entry))) .returned ⌝ }
+    ensures { λ _. ⌜ now (number .exit) ≡ number-of (does (Traffic (now (file .entry))) .answer) ⌝ }
+    ensures { λ _. ⌜ now (place .exit) ≡ place-of (does (Traffic (now (file .entry))) .answer) ⌝ }
+{
+    let h = checks::check_file(file);
+    let r = refusal_of(h);
+    *number = r.number;
+    *place = r.place;
+    let Header::Good(c) = h else {
+        return [[0u32; 3]; 3];
+    };
+    whole_table(file, c)
+}
