@@ -1,0 +1,11 @@
+pub mod FillLaws
+pub mod PartLaws
+pub mod GateLaws
+pub mod InLaws
+pub mod OpenLaws
+pub mod BitLinks
+pub mod DrawLaws
+pub mod GatesLaw
+pub mod InputsLaw
+pub mod OpensLaw
+pub mod WholeLaw

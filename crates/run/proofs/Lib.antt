@@ -1,0 +1,3 @@
+pub mod RunLaws
+pub mod FinishLaws
+pub mod RunCall

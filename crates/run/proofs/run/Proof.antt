@@ -1,0 +1,43 @@
+use borrow.Author.Needs.{needs}
+use Rattle.run.proofs.RunCall.{circuit-refused, slices-refused, ready, accepted-run}
+use Rattle.run.proofs.RunLaws.{checked-from}
+use Rattle.run.proofs.run.Statement.{statement}
+use Rattle.run.proofs.run.Tie as tie
+
+returns : tie.Need-returns
+returns c = circuit-refused _ _ _ _ _ _ _ _ _ _ _ (c .before .before .before .check-file .ensures .0) (c .before .enum-told .given .1) (c .refused .ensures)
+
+count-ands-requires : tie.Need-count-ands-requires
+count-ands-requires c κs = (checked-from _ _ _ (c .before .h .given .1) (c .before .before .before .check-file .ensures .1)) .opened
+
+given-fault-requires : tie.Need-given-fault-requires
+given-fault-requires c κs = ((checked-from _ _ _ (c .before .before .h .given .1) (c .before .before .before .before .check-file .ensures .1)) .opened, c .count-ands .ensures .0, c .count-ands .ensures .1)
+
+returns-2 : tie.Need-returns-2
+returns-2 c = slices-refused _ _ _ _ _ _ _ _ _ (c .before .before .before .before .before .before .before .check-file .ensures .0) (c .before .before .before .before .before .h .given .1) _ (c .before .before .given-fault .ensures) (c .if1 .taken)
+
+run-checked-requires : tie.Need-run-checked-requires
+run-checked-requires c κs = let a = c .before .before .before .before .before .before .before .before .before .before .before .before .before .before .before .before .before .before .args in
+    (ready (a .file .now) (a .inputs .now) (a .tapes .now) (a .line .now) (a .outputs .now) (a .transcript .now) (a .store .now) _ _ (c .before .before .before .before .before .before .before .before .before .before .check-file .ensures .0) (c .before .before .before .before .before .before .before .before .h .given .1) _ (c .before .before .before .before .before .given-fault .ensures) (c .before .before .before .if1 .left) (checked-from _ _ _ (c .before .before .before .before .before .before .before .before .h .given .1) (c .before .before .before .before .before .before .before .before .before .before .check-file .ensures .1)), c .before .before .before .before .before .before .count-ands .ensures)
+
+returns-3 : tie.Need-returns-3
+returns-3 c = let a = c .before .before .before .before .before .before .before .before .before .before .before .before .before .before .before .before .before .before .before .before .before .before .before .before .before .args in
+    accepted-run (a .file .now) (a .inputs .now) (a .tapes .now) (a .line .now) (a .outputs .now) (a .transcript .now) (a .store .now) _ _ (c .before .before .before .before .before .before .before .before .before .before .before .before .before .before .before .before .before .check-file .ensures .0) (c .before .before .before .before .before .before .before .before .before .before .before .before .before .before .before .h .given .1) _ (c .before .before .before .before .before .before .before .before .before .before .before .before .given-fault .ensures) (c .before .before .before .before .before .before .before .before .before .before .if1 .left) _ _ _ _ (c .before .before .before .before .before .before .run-checked .ensures)
+
+pub run-spec : {M : Type 1} → statement M
+run-spec =
+    tie.close
+    (tie.spec
+    (λ c κs. search needs)
+    (λ c. search needs)
+    (λ c. search needs)
+    (λ c κs. search needs)
+    returns
+    count-ands-requires
+    given-fault-requires
+    returns-2
+    run-checked-requires
+    (λ c. search needs)
+    (λ c. search needs)
+    (λ c. search needs)
+    returns-3)

@@ -1,0 +1,26 @@
+use borrow.Author.Needs.{needs}
+use Rattle.site.specs.Mirror.{add-at}
+use Rattle.site.proofs.add_step.Statement.{statement}
+use Rattle.site.proofs.add_step.Tie as tie
+
+returns : tie.Need-returns
+unfolding add-at
+returns c = c .before .before .put-pair .ensures
+
+pub add-step-spec : {M : Type 1} → statement M
+add-step-spec =
+    tie.close
+    (tie.spec
+    (λ c. search needs)
+    (λ c. search needs)
+    (λ c. search needs)
+    (λ c. search needs)
+    (λ c. search needs)
+    (λ c. search needs)
+    (λ c. search needs)
+    (λ c. search needs)
+    (λ c. search needs)
+    (λ c. search needs)
+    (λ c κs. search needs)
+    (λ c. search needs)
+    returns)

@@ -1,0 +1,2 @@
+-- What the listing's writers leave in a lent room.
+pub mod Mirror
