@@ -328,6 +328,20 @@ def stream_of(case):
     return getattr(calls, "call_" + name)(*given, *site, *lent)
 
 
+def case_of(call):
+    """The case of a call as it stands in a stream."""
+    slices, at = [], 5
+    while at < len(call):
+        length = struct.unpack_from("<I", call, at)[0]
+        slices.append(call[at + 4:at + 4 + length])
+        at += 4 + length
+    name = NAMES[call[0] - 1]
+    parts = ["file", *GIVEN.get(name, []),
+             *(part + " lent" for part in LENT.get(name, []))]
+    case = dict(zip(["job"] if name == "listing" else parts, slices))
+    return dict(case, call=name, number=struct.unpack_from("<I", call, 1)[0])
+
+
 # What the text must say.
 
 def bytes_of(text):

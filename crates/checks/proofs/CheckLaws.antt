@@ -1,7 +1,5 @@
--- The tests and chains of the checks, as the code meets them.
---     owner-test, gate-test, output-test    a test of what was read
---     kind-test         the test of a gate's numbers
---     bits-place, ..    the fault of a slice of bits
+-- The chains of the checks, as the code meets them.
+--     bits-short, bits-above, bits-sound    the fault of a slice of bits;  bits-long: where there is none it has its length
 -- Assumes nothing.
 use mathlib.Core.Path.{_≡_, refl, sym, ap, ap₂, _∙_, subst}
 use mathlib.Core.Bool.{Bool, true, false, not, cond, _&&_, _||_}
@@ -20,6 +18,7 @@ use Rattle.scope.specs.Checks.{one-to-three, good-gate, fault, bits-row, row, r
 use Rattle.scope.specs.Refusal.{stands-in, those-of}
 use Rattle.scope.specs.Calls.{Check, given-of, concerns, order, lent-before, lent-at-13, when-good, returned-refused, answers, does}
 use Rattle.scope.proofs.CallLaws.{does-good}
+use Rattle.scope.proofs.RowLaws.{bits-clear}
 use Rattle.header.specs.declared.Counts.{Counts}
 use Rattle.header.specs.declared.Header.{Header}
 use Rattle.header.specs.declared.Header.the-variants.{Good, Refused}
@@ -35,33 +34,8 @@ use Rattle.circuit.proofs.ReaderLaws.{gate-some, owner-some, output-some}
 use Rattle.header.proofs.OpenLaws.{only-answer, opened-from, header-inj}
 use Rattle.header.specs.Answers.{header-answer}
 use Rattle.header.proofs.HeaderLaws.{header-refused, header-good}
-use Rattle.checks.specs.Mirror.{bad-owner, bad-kind, bad-gate, bad-output, above, checked-of, Checked, IsChecked}
-
-pub owner-test : (s : List ℕ) (c : Counts) (k o : ℕ) (r : Owner) → r ≡ owner-by s c k → r ≡ OwnerIs o → k < c .inputs → not (one-to-three o) ≡ bad-owner s k
-unfolding bad-owner
-owner-test s c k o r e q h = ap (λ (z : ℕ). not (one-to-three z)) (owner-some s c k o r e q h)
-
-pub output-test : (s : List ℕ) (c : Counts) (k w : ℕ) (r : Output) → r ≡ output-by s c k → r ≡ OutputIs w → k < c .outputs
-    → not (ltb w (c .inputs + c .gates)) ≡ bad-output s (c .inputs) (c .gates) k
-unfolding bad-output
-output-test s c k w r e q h = ap (λ (z : ℕ). not (ltb z (c .inputs + c .gates))) (output-some s c k w r e q h)
-
--- NOT's second and the others', in one expression that does not branch
-choice : (c a b : Bool) → ((c && a) || (not c && b)) ≡ cond c a b
-choice true true b = refl
-choice true false b = refl
-choice false a b = refl
-
-pub kind-test : (kind a b w : ℕ) → not (((leb 1 kind && leb kind 4) && ltb a w) && ((eqb kind 3 && eqb b 0) || (not (eqb kind 3) && ltb b w))) ≡ bad-kind kind a b w
-unfolding bad-kind good-gate
-kind-test kind a b w = ap (λ (z : Bool). not ((leb 1 kind && leb kind 4) && ltb a w && z)) (choice (eqb kind 3) (eqb b 0) (ltb b w))
-
-pub gate-test : (s : List ℕ) (c : Counts) (k kind a b : ℕ) (r : Gate) (t : Bool) → r ≡ gate-by s c k → r ≡ GateIs kind a b → k < c .gates
-    → t ≡ bad-kind kind a b (c .inputs + k) → t ≡ bad-gate s (c .inputs) k
-unfolding bad-gate
-gate-test s c k kind a b r t e q h m =
-    let v = gate-some s c k kind a b r e q h in
-    m ∙ (λ i. bad-kind (v .0 i) (v .1 i) (v .2 i) (c .inputs + k))
+use Rattle.faults.specs.Mirror.{bad-owner, bad-kind, bad-gate, bad-output, above}
+use Rattle.checks.specs.Mirror.{checked-of, Checked, IsChecked}
 
 -- the fault of a slice of bits: the wanted length, an index, or one beyond
 module _ (s : List ℕ) (want : ℕ) where
@@ -93,6 +67,10 @@ module _ (s : List ℕ) (want : ℕ) where
       go : (p : ℕ) (b : Bool) → ltb p want ≡ b → bits-row s want .bad p ≡ false
       go p true t = let h : p < want = ltb-true p want t in long e p h ∙ clear p h
       go p false t = rw (eq-eqb _ _ e, t)
+
+  pub bits-long : (k : ℕ) → k ≡ fault (bits-row s want) → want < k → length s ≡ want
+  unfolding fault
+  bits-long k e h = bits-clear s want (first-clear (bits-row s want .bad) (suc want) (omega arith)) .long
 
 -- checks 4 to 6, as the code goes through them
 pub parts-owner : (s : List ℕ) (c : Counts) (i : ℕ) → i ≡ first (bad-owner s) (c .inputs) → i < c .inputs → Refused 4 i ≡ checked-of s c

@@ -28,7 +28,8 @@ use Rattle.circuit.specs.declared.Owner.the-variants.{Is as OwnerIs}
 use Rattle.header.specs.Mirror.{Opened}
 use Rattle.circuit.specs.Mirror.{gate-by, owner-by}
 use Rattle.circuit.proofs.ReaderLaws.{gate-some, owner-some}
-use Rattle.checks.specs.Mirror.{deals, site-no, job-place, job-fault-of}
+use Rattle.faults.specs.Mirror.{deals, site-no, job-place}
+use Rattle.checks.specs.Mirror.{job-fault-of}
 
 pub deals-law : (kind a b : ℕ) → deals kind ≡ dealing (gate-of kind a b)
 unfolding deals dealing gate-of

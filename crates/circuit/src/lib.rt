@@ -37,9 +37,9 @@ pub fn gate_at(file: &[u8], inputs: usize, gates: usize, outputs: usize, k: usiz
     }
     let at = 32 + inputs + 6 * k;
     Gate::Is(
-        header::u16_at(file, at),
-        header::u16_at(file, at + 2),
-        header::u16_at(file, at + 4),
+        numbers::u16_at(file, at),
+        numbers::u16_at(file, at + 2),
+        numbers::u16_at(file, at + 4),
     )
 }
 
@@ -60,7 +60,7 @@ pub fn output_at(file: &[u8], inputs: usize, gates: usize, outputs: usize, k: us
     if outputs <= k {
         return Output::Refused(6, outputs);
     }
-    Output::Is(header::u16_at(file, 32 + inputs + 6 * gates + 2 * k))
+    Output::Is(numbers::u16_at(file, 32 + inputs + 6 * gates + 2 * k))
 }
 
 // Plain parameters over the core: every loop reads through these.

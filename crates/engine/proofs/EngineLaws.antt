@@ -6,7 +6,7 @@
 --     gate-is, gate-lower             the gate that was read is the circuit's, and reads lower wires
 -- Assumes nothing.
 use mathlib.Core.Path.{_≡_, refl, sym, ap, _∙_, subst}
-use mathlib.Core.Bool.{Bool, true, false, _&&_, cond, true≢false}
+use mathlib.Core.Bool.{true, cond}
 use mathlib.Core.List.{List}
 use Prim.Native.Nat.{ℕ, zero, suc, _+_, _*_, _<_, _≤_}
 use native.Mathlib.Omega.{arith}
@@ -14,8 +14,7 @@ use native.Mathlib.Numerals.{add-one}
 use native.Mathlib.Nat.{le-refl, le-trans, le-add-right, le-antisymm, not-suc-le-zero, eq-or-lt-of-le, le-of-suc-le-suc}
 use mathlib.Core.Logic.{⊎-elim}
 use lib.ListN.{length, getD}
-use lib.Dec.{leb, ltb, eqb}
-use borrow.Author.Tests.{ltb-true, eqb-true, lt-leb, ne-eqb}
+use borrow.Author.Tests.{ne-eqb}
 use Rattle.sharing.specs.Ops.{bits}
 use Rattle.sharing.specs.Sites.{Site, s1, s2, s3, is}
 use Rattle.sharing.specs.Circuit.{Gate, XOR, AND, OR, NOT, dealing, ands, owned}
@@ -28,6 +27,7 @@ use Rattle.circuit.specs.declared.Gate.the-variants.{Is as GateIs}
 use Rattle.circuit.specs.Mirror.{gate-by}
 use Rattle.circuit.proofs.ReaderLaws.{gate-some}
 use Rattle.checks.specs.Mirror.{Checked}
+use Rattle.checks.proofs.FrontLaws.{operands-lower}
 use Rattle.site.specs.Mirror.{deal-at, on-line, in-pairs, line-at}
 use Rattle.steps.specs.Mirror.{add-gate, not-gate, put-four, put-held, sends, takes, on-lines, put-twelve}
 use Rattle.site.specs.declared.Twelve.{Twelve}
@@ -42,25 +42,17 @@ pub and-law : (tapes line : List ℕ) (n a b w o : ℕ) (pos : Pos) (store tr : 
 unfolding and-on
 and-law tapes line n a b w o pos store tr s g d l p h1 h2 h3 h4 h5 = cc
 
-both : (x y : Bool) → (x && y) ≡ true → (x ≡ true) × (y ≡ true)
-both true y e = (refl, e)
-both false y e = let z : false ≡ true = e in (cc, cc)
-
-no : {A : Type 0} → false ≡ true → A
-no e = absurd (true≢false (sym e))
+-- whatever its kind, both its numbers are lower wires
+kind-lowers : (kind a b w : ℕ) → (a < w) × (b < w) → Lower (gate-of kind a b) w
+unfolding gate-of
+kind-lowers zero a b w p = p
+kind-lowers (suc zero) a b w p = p
+kind-lowers (suc (suc zero)) a b w p = p
+kind-lowers (suc (suc (suc zero))) a b w p = (p .0, let h = p .0 in omega arith)
+kind-lowers (suc (suc (suc (suc n)))) a b w p = p
 
 pub lower-of : (kind a b w : ℕ) → good-gate kind a b w ≡ true → Lower (gate-of kind a b) w
-unfolding good-gate gate-of
-lower-of zero a b w e = no e
-lower-of (suc zero) a b w e = let p = both (ltb a w) (ltb b w) e in (ltb-true a w (p .0), ltb-true b w (p .1))
-lower-of (suc (suc zero)) a b w e = let p = both (ltb a w) (ltb b w) e in (ltb-true a w (p .0), ltb-true b w (p .1))
-lower-of (suc (suc (suc zero))) a b w e = let p = both (ltb a w) (eqb b 0) e in let h = ltb-true a w (p .0) in (h, omega arith)
-lower-of (suc (suc (suc (suc zero)))) a b w e = let p = both (ltb a w) (ltb b w) e in (ltb-true a w (p .0), ltb-true b w (p .1))
-lower-of (suc (suc (suc (suc (suc n))))) a b w e =
-    let k : ℕ = suc (suc (suc (suc (suc n)))) in
-    let h = both ((leb 1 k && leb k 4) && ltb a w) (cond (eqb k 3) (eqb b 0) (ltb b w)) e in
-    let g = both (leb 1 k && leb k 4) (ltb a w) (h .0) in
-    no (sym (lt-leb k 4 (omega arith)) ∙ both (leb 1 k) (leb k 4) (g .0) .1)
+lower-of kind a b w e = kind-lowers kind a b w (operands-lower kind a b w e)
 
 module _ (kind a b : ℕ) where
   pub xor-kind : kind ≡ 1 → gate-of kind a b ≡ XOR a b

@@ -1,8 +1,7 @@
-// The circuit file's numbers and its header, read from the caller's slice: checks 1 to 3.
+// The circuit file's header, read from the caller's slice: checks 1 to 3.
 ghost use mathlib.Core.Path.{_≡_};
 ghost use Prim.Native.Nat.{ℕ, _+_, _*_, _<_, _≤_};
 ghost use lib.ListN.{length};
-ghost use Rattle.scope.specs.File.{le16, le32};
 ghost use Rattle.scope.specs.Calls.{Open, answers, does};
 ghost use Rattle.header.specs.Answers.{header-answer};
 ghost use Rattle.header.specs.Mirror.{judged, header-of, Fine, IsOpened};
@@ -18,34 +17,6 @@ pub struct Counts {
 pub enum Header {
     Good(Counts),
     Refused(usize, usize),
-}
-
-// A byte and a pair of bytes, widened: that they are small is said here once.
-fn wide16(x: u8) -> u16
-    ensures { λ r. ⌜ (r ≡ x) × (r < 256) ⌝ }
-{
-    x as u16
-}
-
-fn wide32(x: u16) -> u32
-    ensures { λ r. ⌜ (r ≡ x) × (r < 65536) ⌝ }
-{
-    x as u32
-}
-
-// Two bytes and four, the lowest first.
-pub fn u16_at(file: &[u8], at: usize) -> u16
-    requires { ⌜ at + 2 ≤ length (now file) ⌝ }
-    ensures { λ r. ⌜ r ≡ le16 (now (file .entry)) at ⌝ }
-{
-    wide16(file[at]) + 256 * wide16(file[at + 1])
-}
-
-pub fn u32_at(file: &[u8], at: usize) -> u32
-    requires { ⌜ at + 4 ≤ length (now file) ⌝ }
-    ensures { λ r. ⌜ r ≡ le32 (now (file .entry)) at ⌝ }
-{
-    wide32(u16_at(file, at)) + 65536 * wide32(u16_at(file, at + 2))
 }
 
 // Checks 2 and 3 on the header's eight numbers. The limits come first, so no sum can wrap.
@@ -98,14 +69,14 @@ pub fn read_header(file: &[u8]) -> Header
     }
     judge(
         file.len(),
-        u32_at(file, 0),
-        u32_at(file, 4),
-        u32_at(file, 8),
-        u32_at(file, 12),
-        u32_at(file, 16),
-        u32_at(file, 20),
-        u32_at(file, 24),
-        u32_at(file, 28),
+        numbers::u32_at(file, 0),
+        numbers::u32_at(file, 4),
+        numbers::u32_at(file, 8),
+        numbers::u32_at(file, 12),
+        numbers::u32_at(file, 16),
+        numbers::u32_at(file, 20),
+        numbers::u32_at(file, 24),
+        numbers::u32_at(file, 28),
     )
 }
 

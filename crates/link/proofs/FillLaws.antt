@@ -1,23 +1,12 @@
 -- A buffer that is filled from the front is written on at the seam.
---     fill-one .. fill-four, fill-six    so many bytes more, at the place k where what was written ends
-use mathlib.Core.Path.{_≡_, sym, ap, _∙_}
+--     fill-two, fill-three, fill-four, fill-six    so many bytes more, at the place k where what was written ends; fill-one is sharing's
+use mathlib.Core.Path.{_≡_, ap, _∙_}
 use mathlib.Core.List.{List, [], _∷_, _++_, append-assoc}
-use Prim.Native.Nat.{ℕ, suc, _+_, _≤_, _<_}
+use Prim.Native.Nat.{ℕ, _+_, _≤_}
 use native.Mathlib.Omega.{arith}
-use native.Mathlib.Numerals.{add-one}
-use lib.ListN.{length, drop, set, length-append}
-use lib.Seq.{set-at, drop-cons, append-snoc}
+use lib.ListN.{length, set, length-append}
 use Rattle.sharing.specs.Store.{fill}
-
--- one byte
-pub fill-one : (old new : List ℕ) (k v : ℕ) → length new ≡ k → k < length old → set (fill old new) k v ≡ fill old (new ++ (v ∷ []))
-unfolding fill
-fill-one old new k v e h =
-    let l : length (new ++ (v ∷ [])) ≡ suc (length new) = length-append new (v ∷ []) ∙ add-one (length new) in
-    ap (λ z. set (new ++ z) k v) (drop-cons old (length new) 0 (omega arith))
-    ∙ set-at new _ (drop (suc (length new)) old) v k e
-    ∙ sym (append-snoc new v (drop (suc (length new)) old))
-    ∙ ap (λ (n : ℕ). new ++ (v ∷ []) ++ drop n old) (sym l)
+use Rattle.sharing.proofs.StoreLaws.{fill-one}
 
 -- a pair of a wire
 pub fill-two : (old new : List ℕ) (k a b : ℕ) → length new ≡ k → k + 2 ≤ length old

@@ -32,8 +32,9 @@ use Rattle.engine.specs.Mirror.{objects-on, opens-on, hands-on}
 use Rattle.link.proofs.OpensLaw.{objects-law, opens-law, hands-law, outputs-length}
 use Rattle.run.specs.declared.Ran.the-variants.{Good, Abort}
 use Rattle.run.specs.Answers.{run-answer, run-after}
-use Rattle.run.specs.Mirror.{counts-of, Ready}
-use Rattle.run.proofs.RunLaws.{counts-are}
+use Rattle.given.specs.Mirror.{counts-of}
+use Rattle.run.specs.Mirror.{Ready}
+use Rattle.given.proofs.GivenLaws.{counts-are}
 
 pub first-ext : (p q : ℕ → Bool) (n : ℕ) → ((k : ℕ) → k < n → p k ≡ q k) → first p n ≡ first q n
 first-ext p q n h = ⊎-elim none some (eq-or-lt-of-le (first-le q n))

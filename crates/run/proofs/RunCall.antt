@@ -19,8 +19,7 @@ use Rattle.scope.specs.Answer.{Answer, good, abort, refused, After}
 use Rattle.scope.specs.Checks.{Given, row, refusal-table, fault, Verdict, accepted, refuses, verdict}
 use Rattle.scope.specs.Refusal.{stands-in, those-of}
 use Rattle.scope.specs.Calls.{Call, Check, Run, given-of, concerns, order, lent-before, lent-at-13, when-refused, returned-refused, answers, at-wire, ran, does, Accepts}
-use Rattle.scope.proofs.Refusals.{Clears, Passes, accepted-not, verdict-skips}
-use Rattle.scope.proofs.CallLaws.{does-refused, refused-verdict, verdict-accepts, accepts-passes, good-accepts}
+use Rattle.scope.proofs.CallLaws.{does-refused, verdict-accepts}
 use Rattle.scope.proofs.Accepted.{RunOk, run-ok}
 use Rattle.scope.proofs.RunCall.{run-does}
 use Rattle.header.specs.declared.Counts.{Counts}
@@ -28,23 +27,13 @@ use Rattle.header.specs.declared.Header.{Header}
 use Rattle.header.specs.declared.Header.the-variants.{Good as HeaderGood, Refused as HeaderRefused}
 use Rattle.header.specs.Answers.{header-answer}
 use Rattle.checks.specs.Mirror.{Checked, IsChecked}
-use Rattle.run.specs.declared.Fault.{Fault}
+use Rattle.given.specs.declared.Fault.{Fault}
+use Rattle.checks.proofs.FrontLaws.{one-to-six, circuit-refuses, circuit-passes}
+use Rattle.given.specs.Mirror.{found}
 use Rattle.run.specs.declared.Ran.{Ran}
 use Rattle.run.specs.declared.Ran.the-variants.{Good, Abort, Refused}
 use Rattle.run.specs.Answers.{run-answer, run-after}
-use Rattle.run.specs.Mirror.{counts-of, run-given, found, refusal-of, Ready}
-use Rattle.run.proofs.RunLaws.{counts-are}
-
--- a refusal stays what it is, whatever is checked after it
-verdict-stays : (g : Given) (ns ms : List ℕ) (n p : ℕ) → verdict g ns ≡ refuses n p → verdict g (ns ++ ms) ≡ refuses n p
-unfolding verdict
-verdict-stays g [] ms n p e = absurd (accepted-not g n p e)
-verdict-stays g (k ∷ ns) ms n p e = go (ltb (fault (row g k)) (row g k .span)) e (verdict-stays g ns ms n p)
-  where
-    go : (b : Bool) → cond b (refuses k (fault (row g k))) (verdict g ns) ≡ refuses n p → (verdict g ns ≡ refuses n p → verdict g (ns ++ ms) ≡ refuses n p)
-        → cond b (refuses k (fault (row g k))) (verdict g (ns ++ ms)) ≡ refuses n p
-    go true h ih = h
-    go false h ih = ih h
+use Rattle.run.specs.Mirror.{run-given, refusal-of, Ready}
 
 same : {A : Type 0} (b : Bool) (x : A) → cond b x x ≡ x
 same true x = refl
@@ -57,35 +46,23 @@ module _ (f x t l outs tr st : List ℕ) where
   abbrev g : Given
   g = run-given f x t l (length outs) (length tr) (length st)
 
-  abbrev Six : List ℕ
-  Six = 1 ∷ 2 ∷ 3 ∷ 4 ∷ 5 ∷ 6 ∷ []
-
   abbrev Four : List ℕ
   Four = 7 ∷ 8 ∷ 9 ∷ 10 ∷ []
 
   -- "A refusal changes no buffer"
-  refuses-all : (n p : ℕ) → verdict g (Six ++ Four) ≡ refuses n p → run-after (Refused n p) outs tr st ≡ does the-run
+  refuses-all : (n p : ℕ) → verdict g (one-to-six ++ Four) ≡ refuses n p → run-after (Refused n p) outs tr st ≡ does the-run
   unfolding run-answer given-of order concerns those-of stands-in when-refused lent-at-13 lent-before returned-refused
   refuses-all n p v = sym (does-refused the-run n p v ∙ (λ i. record { answer = refused n p; returned = []; lent = same (eqb n 13) (outs ∷ tr ∷ st ∷ []) i }))
 
-  -- 1 to 6 ask for the file alone
-  six-same : verdict g Six ≡ verdict (given-of (Check f)) (order (Check f))
-  unfolding verdict row refusal-table given-of order concerns those-of stands-in
-  six-same = refl
-
-  pub circuit-refused : (h : Header) (n p : ℕ) (r : Ran) → answers (header-answer h) ≡ does (Check f) → h ≡ HeaderRefused n p → r ≡ refusal-of h → run-after r outs tr st ≡ does the-run
-  unfolding header-answer
-  circuit-refused h n p r e q d =
-      let v = refused-verdict (Check f) n p (sym (ap (λ (a : After). a .answer) e) ∙ ap header-answer q) in
-      ap (λ (z : Ran). run-after z outs tr st) (d ∙ ap refusal-of q) ∙ refuses-all n p (verdict-stays g Six Four n p (six-same ∙ v))
+  module _ (h : Header) (e : answers (header-answer h) ≡ does (Check f)) where
+    pub circuit-refused : (n p : ℕ) (r : Ran) → h ≡ HeaderRefused n p → r ≡ refusal-of h → run-after r outs tr st ≡ does the-run
+    circuit-refused n p r q d =
+        ap (λ (z : Ran). run-after z outs tr st) (d ∙ ap refusal-of q)
+        ∙ refuses-all n p (circuit-refuses g refl h e n p q Four)
 
   module _ (h : Header) (c : Counts) (e : answers (header-answer h) ≡ does (Check f)) (q : h ≡ HeaderGood c) where
-    passed : Passes g Six
-    unfolding Passes header-answer given-of order concerns those-of stands-in row refusal-table
-    passed = accepts-passes (Check f) (good-accepts (Check f) (c .inputs ∷ c .gates ∷ c .outputs ∷ []) (sym (ap (λ (a : After). a .answer) e) ∙ ap header-answer q))
-
-    past : verdict g (Six ++ Four) ≡ verdict g Four
-    past = verdict-skips g Six Four passed
+    past : verdict g (one-to-six ++ Four) ≡ verdict g Four
+    past = circuit-passes g refl h e c q Four
 
     pub slices-refused : (r : Fault) → found r ≡ verdict g Four → (r .number ≡ 0 → ⊥) → run-after (Refused (r .number) (r .place)) outs tr st ≡ does the-run
     slices-refused r v n =

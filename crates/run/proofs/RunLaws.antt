@@ -1,6 +1,5 @@
 -- What the proofs of a run cite.
---     counts-are                     an opened file's counts are those that stand in it
---     fault-7 .. fault-10, no-fault  7 to 10, as the code goes through them
+--     slices-stop, fault-9, fault-10, no-fault    7 to 10, as the code goes through them
 --     begins                         where the tapes begin
 -- Assumes nothing.
 use mathlib.Core.Path.{_≡_, refl, sym, ap, ap₂, _∙_, subst}
@@ -10,7 +9,7 @@ use Prim.Native.Nat.{ℕ, zero, suc, _+_, _*_, _<_, _≤_}
 use native.Mathlib.Omega.{arith}
 use lib.ListN.{length, getD}
 use lib.Dec.{ltb, eqb}
-use borrow.Author.Tests.{lt-ltb, le-ltb}
+use borrow.Author.Tests.{ne-eqb}
 use Rattle.sharing.specs.Sites.{Site, s1, s2, s3}
 use Rattle.sharing.specs.Circuit.{Circuit, wires, ands, all-ands, owned, all-owned}
 use Rattle.sharing.specs.First.{first}
@@ -18,11 +17,13 @@ use Rattle.sharing.specs.Tapes.{tape-length}
 use Rattle.scope.specs.File.{inputs-of, gates-of, outputs-of, site-of, circuit}
 use Rattle.scope.specs.Checks.{Given, Row, bits-row, tapes-want, line-want, row-buffer, row, refusal-table, fault, Verdict, accepted, refuses, verdict}
 use Rattle.scope.specs.Calls.{run-wants}
+use Rattle.scope.proofs.Refusals.{row-refuses, row-passes}
 use Rattle.header.specs.declared.Counts.{Counts}
 use Rattle.header.specs.Mirror.{Opened}
 use Rattle.header.specs.declared.Header.{Header}
 use Rattle.header.specs.declared.Header.the-variants.{Good as HeaderGood}
-use Rattle.checks.specs.Mirror.{wrong-size, Checked, IsChecked}
+use Rattle.faults.specs.Mirror.{wrong-size}
+use Rattle.checks.specs.Mirror.{Checked, IsChecked}
 use Rattle.engine.specs.declared.Pos.{Pos}
 use Rattle.engine.specs.Mirror.{St, st, placed, Lower, Room, InRoom, inputs-on, gates-on}
 use Rattle.engine.proofs.EngineLaws.{lower-of, in-moved, inputs-pos}
@@ -37,56 +38,22 @@ use Rattle.sharing.proofs.TapeLaws.{tapes-length}
 use Rattle.scope.specs.Calls.{at-wire}
 use Rattle.scope.proofs.Limits.{ands-most}
 use Rattle.link.specs.Loops.{base, in-places, in-place}
-use Rattle.run.specs.Mirror.{counts-of, run-given, found, Ready}
-
-pub counts-are : (f : List ℕ) (c : Counts) → Opened f c → c ≡ counts-of f
-counts-are f c o = λ i. record { inputs = o .ins-are i; gates = o .gates-are i; outputs = o .outs-are i }
-
--- a row of a verdict, by a number that is its fault
-module _ (g : Given) (N : ℕ) (ns : List ℕ) (r : Row) (i : ℕ) (e : row g N ≡ r) (q : i ≡ fault r) where
-  pub row-refuses : i < r .span → refuses N i ≡ verdict g (N ∷ ns)
-  unfolding verdict
-  row-refuses h = sym (rw (e, ← q, lt-ltb i (r .span) h))
-
-  pub row-passes : r .span ≤ i → verdict g ns ≡ verdict g (N ∷ ns)
-  unfolding verdict
-  row-passes h = sym (rw (e, ← q, le-ltb i (r .span) h))
-
-nothing : (g : Given) → accepted ≡ verdict g []
-unfolding verdict
-nothing g = refl
+use Rattle.given.specs.declared.Fault.{Fault}
+use Rattle.given.specs.Mirror.{counts-of, slices, found}
+use Rattle.given.proofs.GivenLaws.{counts-are, nothing, ands-are, found-refuses, found-passes}
+use Rattle.run.specs.Mirror.{run-given, Ready}
 
 -- 7 to 10 of a run
 module _ (f x t l : List ℕ) (o r s : ℕ) (c : Counts) (a : ℕ) (op : Opened f c) (ea : a ≡ ands (circuit f .gate) (c .gates)) where
   abbrev g : Given
   g = run-given f x t l o r s
 
-  ands-are : a ≡ all-ands (circuit f)
-  ands-are = ea ∙ ap (ands (circuit f .gate)) (op .gates-are)
-
-  pub tapes-are : 2 * c .inputs + 6 * a ≡ tapes-want (circuit f)
-  tapes-are = λ i. 2 * op .ins-are i + 6 * ands-are i
-
   pub line-is : 4 * c .inputs + 12 * a + 6 * c .outputs ≡ line-want (circuit f)
-  line-is = λ i. 4 * op .ins-are i + 12 * ands-are i + 6 * op .outs-are i
+  line-is = λ i. 4 * op .ins-are i + 12 * ands-are f x t c a op ea i + 6 * op .outs-are i
 
-  -- the three rows of bits, and the row of buffers
-  abbrev Bits7 : ℕ → Type 0
-  Bits7 i = i ≡ fault (bits-row x (c .inputs))
-
-  abbrev Bits8 : ℕ → Type 0
-  Bits8 i = i ≡ fault (bits-row t (2 * c .inputs + 6 * a))
-
+  -- the row of the line, and the row of buffers
   abbrev Bits9 : ℕ → Type 0
   Bits9 i = i ≡ fault (bits-row l (4 * c .inputs + 12 * a + 6 * c .outputs))
-
-  row-7 : row g 7 ≡ bits-row x (c .inputs)
-  unfolding row refusal-table
-  row-7 = λ i. bits-row x (sym (op .ins-are) i)
-
-  row-8 : row g 8 ≡ bits-row t (2 * c .inputs + 6 * a)
-  unfolding row refusal-table
-  row-8 = λ i. bits-row t (sym tapes-are i)
 
   row-9 : row g 9 ≡ bits-row l (4 * c .inputs + 12 * a + 6 * c .outputs)
   unfolding row refusal-table
@@ -115,19 +82,18 @@ module _ (f x t l : List ℕ) (o r s : ℕ) (c : Counts) (a : ℕ) (op : Opened 
   unfolding fault wrong-size
   sized b e = e
 
-  pub fault-7 : (i : ℕ) → Bits7 i → i ≤ c .inputs → refuses 7 i ≡ verdict g (7 ∷ 8 ∷ 9 ∷ 10 ∷ [])
-  fault-7 i e h = row-refuses g 7 (8 ∷ 9 ∷ 10 ∷ []) _ i row-7 e (omega arith)
+  -- 7 and 8 ask for file, inputs and tapes alone
+  module _ (u : Fault) (v : found u ≡ verdict (slices f x t) (7 ∷ 8 ∷ [])) where
+    front : found u ≡ verdict g (7 ∷ 8 ∷ [])
+    unfolding verdict row refusal-table
+    front = v
 
-  module _ (i : ℕ) (ei : Bits7 i) (hi : c .inputs < i) where
-    past-7 : verdict g (8 ∷ 9 ∷ 10 ∷ []) ≡ verdict g (7 ∷ 8 ∷ 9 ∷ 10 ∷ [])
-    past-7 = row-passes g 7 (8 ∷ 9 ∷ 10 ∷ []) _ i row-7 ei (omega arith)
+    pub slices-stop : (u .number ≡ 0 → ⊥) → found u ≡ verdict g (7 ∷ 8 ∷ 9 ∷ 10 ∷ [])
+    slices-stop n = ap (λ (b : Bool). cond b accepted (refuses (u .number) (u .place))) (ne-eqb (u .number) 0 n) ∙ found-refuses g (7 ∷ 8 ∷ []) (9 ∷ 10 ∷ []) u front n
 
-    pub fault-8 : (j : ℕ) → Bits8 j → j ≤ 2 * c .inputs + 6 * a → refuses 8 j ≡ verdict g (7 ∷ 8 ∷ 9 ∷ 10 ∷ [])
-    fault-8 j e h = row-refuses g 8 (9 ∷ 10 ∷ []) _ j row-8 e (omega arith) ∙ past-7
-
-    module _ (j : ℕ) (ej : Bits8 j) (hj : 2 * c .inputs + 6 * a < j) where
+    module _ (z : u .number ≡ 0) where
       past-8 : verdict g (9 ∷ 10 ∷ []) ≡ verdict g (7 ∷ 8 ∷ 9 ∷ 10 ∷ [])
-      past-8 = row-passes g 8 (9 ∷ 10 ∷ []) _ j row-8 ej (omega arith) ∙ past-7
+      past-8 = found-passes g (7 ∷ 8 ∷ []) (9 ∷ 10 ∷ []) u front z
 
       pub fault-9 : (k : ℕ) → Bits9 k → k ≤ 4 * c .inputs + 12 * a + 6 * c .outputs → refuses 9 k ≡ verdict g (7 ∷ 8 ∷ 9 ∷ 10 ∷ [])
       fault-9 k e h = row-refuses g 9 (10 ∷ []) _ k row-9 e (omega arith) ∙ past-8
@@ -243,6 +209,3 @@ module _ (f : List ℕ) (c : Counts) where
       let u = d .checked .opened .few-inputs in let v = d .checked .opened .few-gates in let i = d .checked .opened .ins-are in let j = d .checked .opened .gates-are in
       let m = ands-most (circuit f .gate) (circuit f .gates) in
       (omega arith, omega arith, omega arith)
-
-pub checked-from : (h : Header) (f : List ℕ) (c : Counts) → h ≡ HeaderGood c → IsChecked h f → Checked f c
-checked-from h f c q k = subst (λ (z : Header). IsChecked z f) q k

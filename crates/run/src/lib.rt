@@ -16,8 +16,10 @@ ghost use Rattle.scope.specs.Calls.{at-wire, ran, Run, does};
 ghost use Rattle.header.specs.Mirror.{Opened};
 ghost use Rattle.link.specs.Loops.{in-place};
 ghost use Rattle.run.specs.Answers.{run-after};
-ghost use Rattle.run.specs.Mirror.{run-given, found, refusal-of, Ready};
+ghost use Rattle.given.specs.Mirror.{found};
+ghost use Rattle.run.specs.Mirror.{run-given, refusal-of, Ready};
 use engine::Pos;
+use given::Fault;
 use header::Counts;
 use header::Header;
 
@@ -26,12 +28,6 @@ pub enum Ran {
     Good,
     Abort(usize, usize),
     Refused(usize, usize),
-}
-
-// A refusal's number and place, 0 and 0 for none.
-struct Fault {
-    number: usize,
-    place: usize,
 }
 
 // 7 to 10 on an opened circuit of a AND and OR gates: slices, then the lengths of the three buffers.
@@ -49,22 +45,11 @@ fn given_fault(
     requires { ⌜ Opened (now file) c × (a ≡ ands (circuit (now file) .gate) (c .gates)) × (a ≤ c .gates) ⌝ }
     ensures { λ r. ⌜ found r ≡ verdict (run-given (now (file .entry)) (now (xs .entry)) (now (tapes .entry)) (now (line .entry)) outs room store) (7 ∷ 8 ∷ 9 ∷ 10 ∷ []) ⌝ }
 {
-    let want_tapes = 2 * c.inputs + 6 * a;
+    let f = given::slices_fault(file, c, a, xs, tapes);
+    if f.number != 0 {
+        return f;
+    }
     let want_line = 4 * c.inputs + 12 * a + 6 * c.outputs;
-    let x = checks::bits_fault(xs, c.inputs);
-    if x <= c.inputs {
-        return Fault {
-            number: 7,
-            place: x,
-        };
-    }
-    let t = checks::bits_fault(tapes, want_tapes);
-    if t <= want_tapes {
-        return Fault {
-            number: 8,
-            place: t,
-        };
-    }
     let l = checks::bits_fault(line, want_line);
     if l <= want_line {
         return Fault {
@@ -127,7 +112,7 @@ fn shares(
 }
 
 // The run of a circuit and slices that were checked: shares, openings judged, outputs handed over only after the last opening is known to be good.
-fn run_checked(
+pub fn run_checked(
     file: &[u8],
     c: Counts,
     a: usize,

@@ -1,13 +1,14 @@
 -- Whole calls: what their verdict makes of them.
 --     answer-refused     a call's answer is a refusal exactly when its verdict is
 --     does-good          what an accepted call does;  does-refused: what a refused one does
+--     refused-leaves     a refusal leaves what is lent as it was, where 13 does too
 --     accepts-passes, passes-accepts    a call is accepted exactly when no condition that concerns it holds
 -- Assumes nothing.
 use mathlib.Core.Path.{_≡_, refl, sym, ap, _∙_}
 use mathlib.Core.Bool.{Bool, true, false, cond, true≢false}
 use mathlib.Core.List.{List, []}
 use Prim.Native.Nat.{ℕ}
-use lib.Dec.{ltb}
+use lib.Dec.{ltb, eqb}
 use Rattle.sharing.specs.Ops.{bits}
 use Rattle.sharing.specs.Circuit.{Circuit, Draws, Errors}
 use Rattle.sharing.specs.Run.{stop, objects}
@@ -16,10 +17,10 @@ use Rattle.sharing.specs.Line.{errors}
 use Rattle.scope.specs.File.{circuit}
 use Rattle.scope.specs.Answer.{Answer, good, abort, refused, After}
 use Rattle.scope.specs.Checks.{Given, Verdict, accepted, refuses, verdict}
-use Rattle.scope.specs.Calls.{Call, Open, GateAt, OwnerAt, OutputAt, Check, Traffic, Plain, Run, View, Retape, Listing, given-of, order, ran, when-good, when-refused, returned-refused, settle, does, Accepts, at-wire}
+use Rattle.scope.specs.Calls.{Call, Open, GateAt, OwnerAt, OutputAt, Check, Traffic, Plain, Run, View, Retape, Listing, given-of, order, lent-before, lent-at-13, ran, when-good, when-refused, returned-refused, settle, does, Accepts, at-wire}
 use Rattle.scope.proofs.Refusals.{Passes, accepted-not, refuses-inj, accepted-passes, passes-accepted}
 
-abbrev is-refusal : Answer → Bool
+abbrev pub is-refusal : Answer → Bool
 is-refusal (good l) = false
 is-refusal (abort o m) = false
 is-refusal (refused n p) = true
@@ -49,6 +50,10 @@ no-refusal (Listing j) = refl
 pub good-not-refused : (c : Call) (n p : ℕ) → ¬ (when-good c .answer ≡ refused n p)
 good-not-refused c n p e = true≢false (sym (ap is-refusal e) ∙ no-refusal c)
 
+pub cond-same : {A : Type 0} (b : Bool) (x : A) → cond b x x ≡ x
+cond-same true x = refl
+cond-same false x = refl
+
 module _ (c : Call) where
   abbrev judged : Verdict
   judged = verdict (given-of c) (order c)
@@ -60,6 +65,14 @@ module _ (c : Call) where
   pub does-refused : (n p : ℕ) → judged ≡ refuses n p → does c ≡ record { answer = refused n p; returned = returned-refused c n p; lent = when-refused c n }
   unfolding does settle
   does-refused n p e = rw e
+
+  -- "A refusal changes no buffer", for a call whose 13 is no exception, and which returns nothing beside its answer
+  pub refused-leaves : (n p : ℕ) → returned-refused c n p ≡ [] → lent-at-13 c ≡ lent-before c → judged ≡ refuses n p
+      → does c ≡ record { answer = refused n p; returned = []; lent = lent-before c }
+  unfolding when-refused
+  refused-leaves n p r l e =
+      does-refused n p e
+      ∙ (λ i. record { answer = refused n p; returned = r i; lent = (ap (λ (z : List (List ℕ)). cond (eqb n 13) z (lent-before c)) l ∙ cond-same (eqb n 13) (lent-before c)) i })
 
   pub verdict-refused : (n p : ℕ) → judged ≡ refuses n p → does c .answer ≡ refused n p
   verdict-refused n p e = ap (λ (a : After). a .answer) (does-refused n p e)

@@ -2,7 +2,7 @@
 --     byte-or           OR by flips is OR
 --     byte-bit          a byte that is 0 or 1 is the byte of its bit
 --     plain-is          the plain values of all wires, as bytes
---     plain-length      there are W of them
+--     plain-length      there are W of them;  inputs-length, values-length: of the first so many
 -- Assumes nothing.
 use mathlib.Core.Path.{_≡_, refl, sym, ap, ap₂, _∙_}
 use mathlib.Core.Bool.{Bool, true, false, not, _&&_, _||_, xor}
@@ -83,12 +83,12 @@ module _ (C : Circuit) (xs : List ℕ) (h : (k : ℕ) → getD xs k 0 < 2) where
   plain-is = values-are (C .gates)
 
 module _ (C : Circuit) (xs : List ℕ) where
-  inputs-length : (i : ℕ) → length (plain-inputs xs i) ≡ i
+  pub inputs-length : (i : ℕ) → length (plain-inputs xs i) ≡ i
   unfolding plain-inputs
   inputs-length zero = refl
   inputs-length (suc i) = length-append (plain-inputs xs i) _ ∙ (let k = inputs-length i in omega arith)
 
-  values-length : (g : ℕ) → length (plain-values C xs g) ≡ C .ins + g
+  pub values-length : (g : ℕ) → length (plain-values C xs g) ≡ C .ins + g
   unfolding plain-values
   values-length zero = let k = inputs-length (C .ins) in omega arith
   values-length (suc g) = length-append (plain-values C xs g) _ ∙ (let k = values-length g in omega arith)

@@ -4,6 +4,8 @@
 --     verdict-first     the verdict is a refusal exactly when it is the first
 --     Clears, Passes    no condition of a number holds; of none of an order's numbers
 --     accepted-passes, passes-accepted    the verdict is accepted exactly when none holds
+--     verdict-skips, verdict-stays    what passes may be left out in front; a refusal stays, whatever is checked after it
+--     row-refuses, row-passes         a verdict from its first row, by a number that is the row's fault
 -- Assumes nothing.
 use mathlib.Core.Path.{_≡_, refl, sym, ap, ap₂, _∙_, subst}
 use mathlib.Core.Bool.{Bool, true, false, cond, true≢false}
@@ -220,6 +222,25 @@ module _ (g : Given) where
   unfolding Passes
   verdict-skips [] ms h = refl
   verdict-skips (n ∷ ns) ms h = verdict-next n (ns ++ ms) (clears-fault n (h .0)) ∙ verdict-skips ns ms (h .1)
+
+  -- a refusal stays what it is, whatever is checked after it
+  pub verdict-stays : (ns ms : List ℕ) (n p : ℕ) → verdict g ns ≡ refuses n p → verdict g (ns ++ ms) ≡ refuses n p
+  verdict-stays [] ms n p e = absurd (accepted-not n p (sym verdict-nil ∙ e))
+  verdict-stays (k ∷ ns) ms n p e = go (ltb (fault (row g k)) (row g k .span)) refl (verdict-stays ns ms n p)
+    where
+      go : (b : Bool) → ltb (fault (row g k)) (row g k .span) ≡ b → (verdict g ns ≡ refuses n p → verdict g (ns ++ ms) ≡ refuses n p) → verdict g (k ∷ ns ++ ms) ≡ refuses n p
+      go true t ih = let h = ltb-true _ _ t in verdict-here k (ns ++ ms) h ∙ sym (verdict-here k ns h) ∙ e
+      go false t ih = let h = ltb-false _ _ t in verdict-next k (ns ++ ms) h ∙ ih (sym (verdict-next k ns h) ∙ e)
+
+  -- a verdict from its first row, by a number that is the row's fault
+  module _ (N : ℕ) (ns : List ℕ) (r : Row) (i : ℕ) (e : row g N ≡ r) (q : i ≡ fault r) where
+    pub row-refuses : i < r .span → refuses N i ≡ verdict g (N ∷ ns)
+    unfolding verdict
+    row-refuses h = sym (rw (e, ← q, lt-ltb i (r .span) h))
+
+    pub row-passes : r .span ≤ i → verdict g ns ≡ verdict g (N ∷ ns)
+    unfolding verdict
+    row-passes h = sym (rw (e, ← q, le-ltb i (r .span) h))
 
   -- the last number of an order, where its condition holds somewhere
   pub verdict-last : (n : ℕ) → ¬ Clears g n → verdict g (n ∷ []) ≡ refuses n (fault (row g n))

@@ -2,15 +2,16 @@
 --     side-first, side-second    the two bytes of a wire in a site's part
 --     side-length, store-length
 --     store-at                   the two bytes of wire w in the part of site s, at 2W(s-1) + 2w
---     fill-none, fill-length, fill-read, fill-all, fill-rest    what a filled buffer holds
+--     fill-length, fill-read, fill-all, fill-rest    what a filled buffer holds;  fill-one: one byte more
 -- Assumes nothing.
 use mathlib.Core.Path.{_≡_, refl, sym, ap, ap₂, _∙_}
 use mathlib.Core.List.{List, [], _∷_, _++_, append-nil}
 use Prim.Native.Nat.{ℕ, zero, suc, _+_, _*_, _<_, _≤_}
 use native.Mathlib.Omega.{arith}
+use native.Mathlib.Numerals.{add-one}
 use native.Mathlib.Nat.{le-of-eq}
-use lib.ListN.{length, getD, drop, length-append, length-drop, List·getD-append, drop-of-length-le}
-use lib.Seq.{getD-append-add, drop-append-seam}
+use lib.ListN.{length, getD, set, drop, length-append, length-drop, List·getD-append, drop-of-length-le}
+use lib.Seq.{getD-append-add, drop-append-seam, set-at, drop-cons, append-snoc}
 use Rattle.sharing.specs.Sites.{Site, s1, s2, s3, of}
 use Rattle.sharing.specs.Steps.{Pair, Wire, no-wire}
 use Rattle.sharing.specs.Store.{side, store, fill}
@@ -112,3 +113,13 @@ fill-all old new h = ap (λ z. new ++ z) (drop-of-length-le old (le-of-eq (sym h
 pub fill-rest : (old new : List ℕ) → drop (length new) (fill old new) ≡ drop (length new) old
 unfolding fill
 fill-rest old new = drop-append-seam new (drop (length new) old)
+
+-- written on at the seam, one byte more
+pub fill-one : (old new : List ℕ) (k v : ℕ) → length new ≡ k → k < length old → set (fill old new) k v ≡ fill old (new ++ (v ∷ []))
+unfolding fill
+fill-one old new k v e h =
+    let l : length (new ++ (v ∷ [])) ≡ suc (length new) = length-append new (v ∷ []) ∙ add-one (length new) in
+    ap (λ z. set (new ++ z) k v) (drop-cons old (length new) 0 (omega arith))
+    ∙ set-at new _ (drop (suc (length new)) old) v k e
+    ∙ sym (append-snoc new v (drop (suc (length new)) old))
+    ∙ ap (λ (n : ℕ). new ++ (v ∷ []) ++ drop n old) (sym l)

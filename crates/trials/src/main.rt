@@ -1,9 +1,19 @@
 // Reads a stream of calls from standard input, makes each of them and prints what it answers. docs/TRIALS.md has the form of both.
-mod input;
-mod print;
+mod jobs;
+mod several;
 mod single;
 
-use input::Read;
+use stream::input;
+use stream::input::Read;
+use stream::print;
+
+// Whether the program makes the call of this number.
+fn made(which: usize) -> bool {
+    match which {
+        1..=5 | 7 | 10 | 11 => true,
+        _ => false,
+    }
+}
 
 // Makes the next call, and answers whether to go on. Its number is judged before anything more is read.
 fn call() -> bool {
@@ -11,7 +21,7 @@ fn call() -> bool {
     let Read::Is(which) = first else {
         return false;
     };
-    if which < 1 || (which > 5 && which != 10) {
+    if !made(which) {
         print::word(b"unknown call\n");
         return false;
     }
@@ -19,6 +29,9 @@ fn call() -> bool {
     let Read::Is(number) = asked else {
         return false;
     };
+    if which == 7 {
+        return several::run();
+    }
     single::call(which, number)
 }
 

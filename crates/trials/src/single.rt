@@ -1,10 +1,11 @@
 // The calls that take one slice. Each has a function, which prints the call's name and its answer.
-use crate::input;
-use crate::print;
+use crate::jobs;
 use circuit::Gate;
 use circuit::Output;
 use circuit::Owner;
 use header::Header;
+use stream::input;
+use stream::print;
 
 // Reads the file, makes the call and answers whether to go on.
 pub fn call(which: usize, number: usize) -> bool {
@@ -17,7 +18,7 @@ pub fn call(which: usize, number: usize) -> bool {
     got.whole
 }
 
-// The call by its number; what is none of 1 to 5 is 10.
+// The call by its number; what is none of 1 to 5 and 10 is 11.
 fn answer(which: usize, number: usize, file: &[u8]) {
     match which {
         1 => open(file),
@@ -25,7 +26,8 @@ fn answer(which: usize, number: usize, file: &[u8]) {
         3 => owner(file, number),
         4 => output(file, number),
         5 => check(file),
-        _ => table(file),
+        10 => table(file),
+        _ => jobs::listing(file),
     }
 }
 

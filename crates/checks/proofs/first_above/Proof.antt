@@ -1,7 +1,7 @@
 use borrow.Author.Needs.{needs}
 use Prim.Native.Nat.{_≤_, _-_}
 use Rattle.sharing.proofs.FirstLaws.{Clear, clear-none, found, passed, ended}
-use Rattle.checks.specs.Mirror.{above}
+use Rattle.faults.specs.Mirror.{above}
 use Rattle.checks.proofs.first_above.Statement.{statement}
 use Rattle.checks.proofs.first_above.Tie as tie
 

@@ -1,7 +1,7 @@
 use borrow.Author.Needs.{needs}
 use Prim.Native.Nat.{_≤_, _-_}
 use Rattle.sharing.proofs.FirstLaws.{Clear, clear-none, found, passed, ended}
-use Rattle.checks.specs.Mirror.{bad-output}
+use Rattle.faults.specs.Mirror.{bad-output}
 use Rattle.checks.proofs.first_output.Statement.{statement}
 use Rattle.checks.proofs.first_output.Tie as tie
 

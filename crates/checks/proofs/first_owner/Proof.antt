@@ -1,7 +1,7 @@
 use borrow.Author.Needs.{needs}
 use Prim.Native.Nat.{_≤_, _-_}
 use Rattle.sharing.proofs.FirstLaws.{Clear, clear-none, found, passed, ended}
-use Rattle.checks.specs.Mirror.{bad-owner}
+use Rattle.faults.specs.Mirror.{bad-owner}
 use Rattle.checks.proofs.first_owner.Statement.{statement}
 use Rattle.checks.proofs.first_owner.Tie as tie
 

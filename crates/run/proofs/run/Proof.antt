@@ -1,11 +1,11 @@
 use borrow.Author.Needs.{needs}
 use Rattle.run.proofs.RunCall.{circuit-refused, slices-refused, ready, accepted-run}
-use Rattle.run.proofs.RunLaws.{checked-from}
+use Rattle.checks.proofs.FrontLaws.{checked-from}
 use Rattle.run.proofs.run.Statement.{statement}
 use Rattle.run.proofs.run.Tie as tie
 
 returns : tie.Need-returns
-returns c = circuit-refused _ _ _ _ _ _ _ _ _ _ _ (c .before .before .before .check-file .ensures .0) (c .before .enum-told .given .1) (c .refused .ensures)
+returns c = circuit-refused _ _ _ _ _ _ _ _ (c .before .before .before .check-file .ensures .0) _ _ _ (c .before .enum-told .given .1) (c .refused .ensures)
 
 count-ands-requires : tie.Need-count-ands-requires
 count-ands-requires c κs = (checked-from _ _ _ (c .before .h .given .1) (c .before .before .before .check-file .ensures .1)) .opened

@@ -1,0 +1,10 @@
+use borrow.Author.Needs.{needs}
+use Rattle.faults.proofs.TestLaws.{kind-test}
+use Rattle.faults.proofs.kind_bad.Statement.{statement}
+use Rattle.faults.proofs.kind_bad.Tie as tie
+
+returns : tie.Need-returns
+returns c = kind-test _ _ _ _
+
+pub kind-bad-spec : {M : Type 1} → statement M
+kind-bad-spec = tie.close (tie.spec returns)

@@ -1,0 +1,137 @@
+// One test each: what refusals 4, 5, 6, 10, 11 and 14 and "a byte above 1" ask of one owner, gate, output, size, site, job header or byte; and what
+// is counted of one gate.
+ghost use mathlib.Core.Path.{_≡_};
+ghost use mathlib.Core.Bool.{cond};
+ghost use Prim.Native.Nat.{ℕ, _+_, _*_, _<_, _≤_};
+ghost use lib.ListN.{length};
+ghost use Rattle.scope.specs.Checks.{one-to-three};
+ghost use Rattle.header.specs.Mirror.{Opened};
+ghost use Rattle.faults.specs.Mirror.{bad-owner, bad-kind, bad-gate, bad-output, above, wrong-size, job-place, deals, site-no};
+use circuit::Gate;
+use circuit::Output;
+use circuit::Owner;
+use header::Counts;
+
+// 4: an owner not 1 to 3.
+pub fn owner_bad(file: &[u8], c: Counts, k: usize) -> bool
+    requires { ⌜ Opened (now file) c × (k < c .inputs) ⌝ }
+    ensures { λ r. ⌜ r ≡ bad-owner (now (file .entry)) k ⌝ }
+{
+    let a = circuit::owner_with(file, c, k);
+    let Owner::Is(o) = a else {
+        return true;
+    };
+    !((1 <= o) & (o <= 3))
+}
+
+// 5: unknown kind, operand not a lower wire, or NOT with second not 0.
+pub fn kind_bad(kind: u16, a: u16, b: u16, w: usize) -> bool
+    ensures { λ r. ⌜ r ≡ bad-kind kind a b w ⌝ }
+{
+    !((1 <= kind)
+        & (kind <= 4)
+        & ((a as usize) < w)
+        & (((kind == 3) & (b == 0)) | ((kind != 3) & ((b as usize) < w))))
+}
+
+pub fn gate_bad(file: &[u8], c: Counts, k: usize) -> bool
+    requires { ⌜ Opened (now file) c × (k < c .gates) ⌝ }
+    ensures { λ r. ⌜ r ≡ bad-gate (now (file .entry)) (c .inputs) k ⌝ }
+{
+    let a = circuit::gate_with(file, c, k);
+    let Gate::Is(kind, x, y) = a else {
+        return true;
+    };
+    let w = c.inputs + k;
+    kind_bad(kind, x, y, w)
+}
+
+// 6: output wire not below W.
+pub fn output_bad(file: &[u8], c: Counts, k: usize) -> bool
+    requires { ⌜ Opened (now file) c × (k < c .outputs) ⌝ }
+    ensures { λ r. ⌜ r ≡ bad-output (now (file .entry)) (c .inputs) (c .gates) k ⌝ }
+{
+    let a = circuit::output_with(file, c, k);
+    let Output::Is(x) = a else {
+        return true;
+    };
+    let w = c.inputs + c.gates;
+    !((x as usize) < w)
+}
+
+// 7, 8, 9, 12: a byte above 1.
+pub fn byte_above(s: &[u8], k: usize) -> bool
+    requires { ⌜ k < length (now s) ⌝ }
+    ensures { λ r. ⌜ r ≡ above (now (s .entry)) k ⌝ }
+{
+    !(s[k] <= 1)
+}
+
+// 10: a buffer that has not its length.
+pub fn size_wrong(sizes: &[usize], wants: &[usize], k: usize) -> bool
+    requires { ⌜ (k < length (now sizes)) × (k < length (now wants)) ⌝ }
+    ensures { λ r. ⌜ r ≡ wrong-size (now (sizes .entry)) (now (wants .entry)) k ⌝ }
+{
+    !(sizes[k] == wants[k])
+}
+
+// 11: a site that is 1, 2 or 3.
+pub fn site_good(site: usize) -> bool
+    ensures { λ r. ⌜ r ≡ one-to-three site ⌝ }
+{
+    (1 <= site) & (site <= 3)
+}
+
+// 14 on the job's length and its four numbers: the place, or 13 where the header is good. Offsets are compared and never added to.
+pub fn judge_job(n: usize, a: u32, b: u32, c: u32, d: u32) -> usize
+    ensures { λ r. ⌜ r ≡ job-place n a b c d ⌝ }
+{
+    if n > 41520 {
+        return 0;
+    }
+    if a as usize != n {
+        return 0;
+    }
+    if b != 16 {
+        return 4;
+    }
+    if c < 16 {
+        return 8;
+    }
+    if c as usize > n {
+        return 8;
+    }
+    if d < c {
+        return 12;
+    }
+    if d as usize > n {
+        return 12;
+    }
+    13
+}
+
+// 1 for a gate that deals, AND or OR, else 0.
+pub fn deal_bit(kind: u16) -> usize
+    ensures { λ r. ⌜ (r ≡ deals kind) × (r ≤ 1) ⌝ }
+{
+    if kind == 1 {
+        return 0;
+    }
+    if kind == 3 {
+        return 0;
+    }
+    1
+}
+
+// The site that a number stands for: 1, 2, and 3 for any other.
+pub fn site_number(x: usize) -> usize
+    ensures { λ r. ⌜ r ≡ site-no x ⌝ }
+{
+    if x == 1 {
+        return 1;
+    }
+    if x == 2 {
+        return 2;
+    }
+    3
+}
