@@ -7,6 +7,10 @@ import damage
 from calls import AND, NOT, OR, XOR, Circuit
 
 KINDS = (AND, OR, XOR, NOT)
+# Every owner and every kind of gate; opened are the last wire, one between and
+# an input.
+EACH = Circuit([1, 2, 3], [(AND, 0, 1), (XOR, 3, 2), (NOT, 4, 0),
+                           (OR, 5, 0)], [6, 3, 0])
 
 
 class Draw:
@@ -39,17 +43,24 @@ class Draw:
         return bytes(self.getrandbits(8) for _ in range(count))
 
 
-def limit(inputs, gates, outputs):
+def limit(inputs, gates, outputs, kinds=KINDS):
     """A circuit of these counts.  Each gate reads the wire before it, so that
     the last wire, which is opened first, hangs on all of them."""
     owners = [n % 3 + 1 for n in range(inputs)]
     records = []
     for g in range(gates):
-        kind, last = KINDS[g % 4], inputs + g - 1
+        kind, last = kinds[g % len(kinds)], inputs + g - 1
         records.append((kind, last, 0 if kind == NOT else last // 2))
     wires = inputs + gates
     return Circuit(owners, records, [wires - 1 - n % wires
                                      for n in range(outputs)])
+
+
+def lent_bits(rng, case):
+    """The same call with bits in its lent buffers.  A refused call prints them
+    as they were, and a bit is one sign, not three."""
+    return dict(case, **{part: damage.draw_bits(rng, len(case[part]))
+                         for part in case if part.endswith(" lent")})
 
 
 def small_edges():

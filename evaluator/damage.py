@@ -8,6 +8,7 @@ order of refusals and their places are compared and not only looked at.
 import struct
 
 import calls
+import clean
 from calls import AND, NOT, OR, XOR, Circuit
 
 LENT = {
@@ -87,9 +88,22 @@ def check_bits(number, bits, wanted):
     return next(((number, n) for n, b in enumerate(bits) if b > 1), None)
 
 
-def check_buffers(case, *lengths):
-    for place, (name, length) in enumerate(zip(LENT[case["call"]], lengths)):
-        if len(case[name + " lent"]) != length:
+def lent_lengths(name, circuit, site):
+    """How long the buffers lent to a call are wanted."""
+    return {
+        "plain": [circuit.wires],
+        "run": [3 * len(circuit.outputs), circuit.line_length(),
+                6 * circuit.wires],
+        "view": [circuit.view_length(site), 6 * circuit.wires],
+        "retape": [circuit.tapes_length(), 4 * circuit.wires],
+    }.get(name, [])
+
+
+def check_buffers(case, circuit):
+    name = case["call"]
+    for place, (part, length) in enumerate(zip(
+            LENT[name], lent_lengths(name, circuit, case["number"]))):
+        if len(case[part + " lent"]) != length:
             return 10, place
     return None
 
@@ -146,30 +160,27 @@ def check_given(file, inputs, tapes):
 
 def check_plain(case, circuit):
     return (check_bits(7, case["inputs"], len(circuit.owners))
-            or check_buffers(case, circuit.wires))
+            or check_buffers(case, circuit))
 
 
 def check_run(case, circuit):
-    length = circuit.line_length()
     return (check_given(case["file"], case["inputs"], case["tapes"])
-            or check_bits(9, case["line"], length)
-            or check_buffers(case, 3 * len(circuit.outputs), length,
-                             6 * circuit.wires))
+            or check_bits(9, case["line"], circuit.line_length())
+            or check_buffers(case, circuit))
 
 
 def check_view(case, circuit):
     site = case["number"]
     return (check_given(case["file"], case["inputs"], case["tapes"])
             or (None if site in (1, 2, 3) else (11, 0))
-            or check_buffers(case, circuit.view_length(site),
-                             6 * circuit.wires))
+            or check_buffers(case, circuit))
 
 
 def check_retape(case, circuit):
     site, inputs, second = case["number"], case["inputs"], case["second"]
     return (check_given(case["file"], inputs, case["tapes"])
             or (None if site in (1, 2, 3) else (11, 0))
-            or check_buffers(case, circuit.tapes_length(), 4 * circuit.wires)
+            or check_buffers(case, circuit)
             or check_bits(12, second, len(circuit.owners))
             or check_same(circuit, inputs, second, site))
 
@@ -234,14 +245,8 @@ def draw_call(rng, name, circuit):
                         for s, b in zip(circuit.owners, inputs)),
     }
     case["job"] = calls.job(case["file"], inputs, case["tapes"])
-    lengths = {
-        "plain": [circuit.wires],
-        "run": [3 * len(circuit.outputs), circuit.line_length(),
-                6 * circuit.wires],
-        "view": [circuit.view_length(site), 6 * circuit.wires],
-        "retape": [circuit.tapes_length(), 4 * circuit.wires],
-    }.get(name, [])
-    for part, length in zip(LENT.get(name, []), lengths):
+    for part, length in zip(LENT.get(name, []),
+                            lent_lengths(name, circuit, site)):
         case[part + " lent"] = rng.randbytes(length)
     if name in ("gate", "owner", "output"):
         case["number"] = rng.choice([rng.randrange(6)] * 3 + ODD_NUMBERS)
@@ -399,14 +404,22 @@ def wrong_run(case, answer, after):
 
 
 def wrong_view(case, after):
-    circuit, site = case["circuit"], case["number"]
-    own = bytes(b for s, b in zip(circuit.owners, case["inputs"]) if s == site)
-    value = plain(circuit, case["inputs"])
-    opened = bytes(value[w] for w in circuit.outputs)
-    view = after["view"]
-    if not (view.startswith(own) and view.endswith(opened)):
+    run = clean.Run(case["circuit"], case["inputs"], case["tapes"])
+    if after["view"] != run.view(case["number"]):
         return "the view"
-    return None
+    return None if after["store"] == run.store() else "the store"
+
+
+def wrong_retape(case, after):
+    circuit, site = case["circuit"], case["number"]
+    given = case["inputs"], case["tapes"]
+    if after["tapes"] != clean.new_tapes(circuit, *given, case["second"],
+                                         site):
+        return "the new tapes"
+    room = bytes(plain(circuit, case["inputs"])
+                 + plain(circuit, case["second"]))
+    room += clean.Run(circuit, *given).pairs(site)
+    return None if after["room"] == room else "the work room"
 
 
 def traffic(circuit):
@@ -495,4 +508,6 @@ def wrong(case, answer, lines):
     if name == "plain":
         value = plain(case["circuit"], case["inputs"])
         return None if after["values"] == bytes(value) else "the values"
-    return None if name == "retape" else wrong_text(case, lines)
+    if name == "retape":
+        return wrong_retape(case, after)
+    return wrong_text(case, lines)

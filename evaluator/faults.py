@@ -62,6 +62,18 @@ def part_faults(circuit):
         yield from number_faults(at, (0, wires - 1, wires, wires + 1, 65535))
 
 
+def bad_parts(circuit):
+    """The first, a middle and the last owner, gate and output, each bad."""
+    inputs, gates = len(circuit.owners), len(circuit.gates)
+    for n in some(inputs):
+        yield 32 + n, bytes([4])
+    for g in some(gates):
+        yield from number_faults(32 + inputs + 6 * g, [5])
+    for n in some(len(circuit.outputs)):
+        yield from number_faults(32 + inputs + 6 * gates + 2 * n,
+                                 [circuit.wires])
+
+
 def file_faults(rng, circuit):
     """Every one of the faults of a file, one at a time."""
     file = circuit.file()

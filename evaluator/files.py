@@ -38,7 +38,7 @@ def all_calls(file):
         if len(file) > LARGE:
             numbers = [count - 1, count]
         if damage.check_header(file):
-            numbers = sorted({0, count})
+            numbers = sorted({0, count} if len(file) <= LARGE else {count})
         for number in numbers:
             yield case(name, file, number)
 

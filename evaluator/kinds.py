@@ -6,10 +6,14 @@ is counted from the evaluator's answers.
 import struct
 
 import damage
+import together
 
 QUESTIONS = {"owner": 4, "gate": 5, "output": 6}
-CHECKED = ["check", "traffic", "run", "listing"]  # these make 1 to 6
-BITS = {"run": (7, 8, 9), "listing": (7, 8)}
+CHECKED = ["check", "traffic", "run", "listing", "plain", "view",
+           "retape"]  # these make 1 to 6
+BITS = {"run": (7, 8, 9), "listing": (7, 8), "plain": (7,), "view": (7, 8),
+        "retape": (7, 8, 12)}
+SLICE = {7: "inputs", 8: "tapes", 9: "line", 12: "second"}
 COUNTS = ("I", "G", "O")
 LIMITS = (1024, 3072, 256)
 WHERE = ("at the first", "at one between", "at the last")
@@ -36,6 +40,9 @@ def needed_of(name):
                     for n in (4, 5, 6) for where in WHERE)
     yield from (f"{name} refused {n} {kind}" for n in BITS.get(name, ())
                 for kind in WHERE + LENGTH)
+    yield from (f"{name} refused 10, {part} {how}"
+                for part in damage.LENT.get(name, ()) for how in LENGTH)
+    yield from together.needed_of(name)
     if name == "run":
         yield from needed_of_run()
     if name == "listing":
@@ -46,8 +53,6 @@ def needed_of(name):
 
 
 def needed_of_run():
-    for kind in ("outputs", "transcript", "store"):
-        yield from (f"run refused 10, {kind} {how}" for how in LENGTH)
     for sites in range(1, 8):
         yield f"run abort of sites {sites} at the first output"
         yield f"run abort of sites {sites} at a later output"
@@ -65,13 +70,13 @@ def needed_of_run():
 # What an answer is.
 
 def parts_of(case):
-    """File, inputs, tapes and line, a listing's from its job."""
+    """The slices by name, a listing's from its job."""
     if case["call"] != "listing":
-        return [case.get(part, b"")
-                for part in ("file", "inputs", "tapes", "line")]
+        return case
     second, third = struct.unpack("<2I", (case["job"] + bytes(16))[8:16])
     job = case["job"]
-    return [job[16:second], job[second:third], job[third:], b""]
+    return {"file": job[16:second], "inputs": job[second:third],
+            "tapes": job[third:]}
 
 
 def counts_of(file):
@@ -98,12 +103,12 @@ def of_job(job):
 
 
 def of_bits(case, number, place):
-    """Refusals 7, 8 and 9: the wanted length, or else an index."""
-    file, *given = parts_of(case)
-    circuit = damage.read(file)
-    wanted = (len(circuit.owners), circuit.tapes_length(),
-              circuit.line_length())[number - 7]
-    length = len(given[number - 7])
+    """Refusals 7, 8, 9 and 12: the wanted length, or else an index."""
+    parts = parts_of(case)
+    circuit = damage.read(parts["file"])
+    wanted = {8: circuit.tapes_length(), 9: circuit.line_length()}.get(
+        number, len(circuit.owners))
+    length = len(parts[SLICE[number]])
     if length != wanted:
         return off(length, wanted) if place == wanted else "elsewhere"
     return where(place, wanted)
@@ -113,17 +118,16 @@ def of_refusal(case, number, place):
     name = case["call"]
     head = f"{name} refused {number}"
     if number in (4, 5, 6):
-        count = counts_of(parts_of(case)[0])[number - 4]
+        count = counts_of(parts_of(case)["file"])[number - 4]
         if name in QUESTIONS:
             return f"{head} at the count" if place == count else head
         return f"{head} {where(place, count)}"
-    if number in (7, 8, 9):
+    if number in SLICE:
         return f"{head} {of_bits(case, number, place)}"
     if number == 10:
         part = damage.LENT[name][place]
-        circuit = damage.read(case["file"])
-        wanted = (3 * len(circuit.outputs), circuit.line_length(),
-                  6 * circuit.wires)[place]
+        wanted = damage.lent_lengths(name, damage.read(case["file"]),
+                                     case["number"])[place]
         return f"{head}, {part} {off(len(case[part + ' lent']), wanted)}"
     if (number, place) == (14, 0):
         return f"{head} 0, {of_job(case['job'])}"
@@ -143,7 +147,7 @@ def above_limit(file, place):
 def of_edges(case, refusal):
     """The edges that a call's file has.  An answer counts that is good, an
     abort, or a question's own refusal; above a limit, refusal 2."""
-    file = parts_of(case)[0]
+    file = parts_of(case)["file"]
     if refusal and refusal[0] == 2:
         return above_limit(file, refusal[1])
     if refusal and QUESTIONS.get(case["call"]) != refusal[0]:
@@ -214,11 +218,13 @@ def kinds_of(case, answer, lines):
     refusal = numbers if outcome == "refused" else None
     found = {f"{name}, {edge}" for edge in of_edges(case, refusal)}
     if refusal:
-        return found | {of_refusal(case, *refusal)}
+        return (found | {of_refusal(case, *refusal)}
+                | set(together.of_refusal(case, *refusal)))
     if outcome == "abort":
         return found | set(of_abort(case, *numbers))
     if name == "run":
         found |= set(of_good_run(case, lines))
     if name == "listing" and len(case["job"]) == 41520:
         found.add("listing good of 41520 bytes")
+    found |= set(together.of_good(case, lines))
     return found | {f"{name} good"}

@@ -8,7 +8,7 @@ import calls
 import circuits
 import damage
 import faults
-from calls import AND, NOT, OR, XOR, Circuit
+from calls import AND, NOT, OR, XOR
 
 SEED = 20262
 PARTS = ["inputs", "tapes", "line"]
@@ -51,11 +51,17 @@ def line_of(circuit, places):
 # The edges by name.
 
 def edges(rng):
-    """Each count at its limit and one above; small circuits with tapes as
-    long as is wanted, one short and one long, and on drawn lines."""
-    for counts in ((1024, 0, 1), (1025, 0, 1), (1, 3072, 1), (1, 3073, 1),
-                   (3, 4, 256), (3, 4, 257)):
+    """Each count at its limit and one above; an abort at the last of 256
+    outputs; small circuits with tapes as long as is wanted, one short and one
+    long, and on drawn lines."""
+    for counts in ((1024, 0, 1), (1, 3072, 1), (3, 4, 256)):
         yield from both(drawn(rng, "run", circuits.limit(*counts)))
+    for counts in ((1025, 0, 1), (1, 3073, 1), (3, 4, 257)):
+        circuit = circuits.limit(*counts, kinds=(XOR, NOT))
+        yield from both(circuits.lent_bits(rng, drawn(rng, "run", circuit)))
+    circuit = circuits.limit(3, 4, 256)
+    yield drawn(rng, "run", circuit, line=line_of(
+        circuit, {circuit.line_length() - 1}))
     for circuit in circuits.small_edges():
         length = circuit.tapes_length()
         for tapes in sorted({length, max(length - 1, 0), length + 1}):
@@ -67,12 +73,10 @@ def edges(rng):
 
 
 def largest(rng):
-    """All counts at their limits and every gate an AND or OR: a clean run, an
-    abort at the last output, the largest job and one a byte longer."""
+    """All counts at their limits and every gate an AND or OR: a clean run,
+    the largest job and one a byte longer."""
     circuit = damage.draw_circuit(rng, 1024, 3072, 256, (AND, OR))
-    length = circuit.line_length()
     yield drawn(rng, "run", circuit)
-    yield drawn(rng, "run", circuit, line=line_of(circuit, {length - 1}))
     job = drawn(rng, "listing", circuit)
     yield job
     yield dict(job, job=calls.u32(41521) + job["job"][4:] + b"\0")
@@ -117,8 +121,7 @@ def lines(rng):
     for inputs, line in marked_lines():
         yield drawn(rng, "run", calls.MARKED, inputs=calls.bits(inputs),
                     tapes=calls.TAPES, line=line)
-    each = Circuit([1, 2, 3], [(AND, 0, 1), (XOR, 3, 2), (NOT, 4, 0),
-                               (OR, 5, 0)], [6, 3, 0])
+    each = circuits.EACH
     for at in range(each.line_length()):
         for _ in range(2):
             yield drawn(rng, "run", each, line=line_of(each, {at}))
@@ -146,6 +149,12 @@ def drawn_lines(rng, count):
 
 
 # Faults.
+
+def bad_parts(rng):
+    for fault in faults.bad_parts(circuits.EACH):
+        yield from both(with_part(drawn(rng, "run", circuits.EACH), "file",
+                                  fault))
+
 
 def file_faults(rng, circuit):
     """Each fault of a file, a third of them through each call."""
@@ -219,7 +228,8 @@ def damaged(rng, name, count):
 
 def cases():
     rng = circuits.Draw(SEED)
-    found = [*edges(rng), *largest(rng), *lines(rng), *drawn_lines(rng, 900)]
+    found = [*edges(rng), *largest(rng), *lines(rng), *drawn_lines(rng, 900),
+             *bad_parts(rng)]
     for circuit in circuits.bases(rng):
         found += [*file_faults(rng, circuit), *slice_faults(rng, circuit),
                   *two_slices(rng, circuit, 60), *job_faults(rng, circuit)]

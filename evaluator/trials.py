@@ -22,14 +22,20 @@ import damage  # noqa: E402
 import files   # noqa: E402
 import kinds   # noqa: E402
 import runs    # noqa: E402
+import together  # noqa: E402
+import views   # noqa: E402
 
 CRATE = os.path.join(check.HERE, os.pardir, "crates", "trials")
-MADE = [*files.NAMES, "run", "listing"]  # the calls that the program makes
-SEVERAL = ("run", "listing")
-LEAST = 3000  # so many calls of these together
-EXAMPLES = ["K1 run", "K1 listing", "K2", "K4", "K5", "K6", "K7",
-            "K11 AND 0 2", "K11 AND 0 0", "K12", "tapes one short",
-            "tapes one long", "empty run", "empty listing"]
+# The calls that the program makes.  One that is not here is left out of the
+# stream and of the kinds of answers.
+MADE = [*files.NAMES, "run", "listing", "plain", "view", "retape"]
+# So many calls of these together there must be.
+LEAST = {("run", "listing"): 3000, ("plain",): 600, ("view",): 1000,
+         ("retape",): 1500}
+EXAMPLES = ["K1 run", "K1 plain", "K1 listing", "K2", "K3", "K4", "K5", "K6",
+            "K7", "K8", "K9", "K10", "K11 AND 0 2", "K11 AND 0 0", "K12",
+            "tapes one short", "tapes one long", "empty run", "empty plain",
+            "empty view", "empty retape", "empty listing"]
 
 
 def marked():
@@ -41,7 +47,8 @@ def marked():
 def cases():
     """All calls of the stream: the marked ones come first."""
     return [case for case in [*(case for _, case in marked()),
-                              *files.cases(), *runs.cases()]
+                              *files.cases(), *runs.cases(),
+                              *views.cases()]
             if case["call"] in MADE]
 
 
@@ -81,20 +88,24 @@ def check_marked(text):
             fail(f"{name}, line {at + 1}: stored is "
                  f"{lines[at:at + len(wanted)]}, the document has {wanted}")
         at += len(wanted)
-    print(f"K1, K2, K4 to K7, K11, K12 and the edges as the document has "
-          f"them, {len(examples)} calls, lines 1 to {at}")
+    numbered = dict.fromkeys(name.split()[0] for name, _ in examples
+                             if name.startswith("K"))
+    print(f"{', '.join(numbered)} and the edges as the document has them, "
+          f"{len(examples)} calls, lines 1 to {at}")
 
 
 def check_answers(every, text):
     """Every answer is the one that damage.py works out for itself."""
     missing = {kind for name in MADE for kind in kinds.needed_of(name)}
-    count = len(missing)
-    for n, (case, (answer, lines)) in enumerate(
-            zip(every, check.texts_of(every, text)), 1):
+    if {"view", "retape"} <= set(MADE):
+        missing |= together.needed_of_both()
+    count, told = len(missing), list(zip(every, check.texts_of(every, text)))
+    for n, (case, (answer, lines)) in enumerate(told, 1):
         wrong = damage.wrong(case, answer, lines)
         if wrong:
             fail(f"call {n}, '{answer}': {wrong}")
         missing -= kinds.kinds_of(case, answer, lines)
+    missing -= check_sequences(told)
     for kind in sorted(missing):
         print(f"trials: no answer '{kind}'")
     if missing:
@@ -102,11 +113,39 @@ def check_answers(every, text):
     print(f"{count} kinds of answers, each there")
 
 
+def check_sequences(told):
+    """Calls of a sequence have its number.  Answers the kinds they are of."""
+    found, some = set(), {}
+    for case, text in told:
+        if "sequence" in case:
+            some.setdefault(case["sequence"], []).append((case, text))
+    for number, calls_of_it in some.items():
+        wrong, kinds_of_it = together.of_sequence(calls_of_it)
+        if wrong:
+            fail(f"sequence {number}: {wrong}")
+        found |= kinds_of_it
+    if some:
+        print(f"{len(some)} sequences, there and back and by way of a third")
+    return found
+
+
+def counted(every):
+    """How many calls there are of each, told in words."""
+    words = []
+    for names, least in LEAST.items():
+        count = sum(case["call"] in names for case in every)
+        told = f"{count} of {' and '.join(names)}"
+        if not set(names) <= set(MADE):
+            continue
+        if count < least:
+            fail(f"{told}, {least} are wanted")
+        words.append(told)
+    return ", ".join(words)
+
+
 def check_all():
     every = cases()
-    several = sum(case["call"] in SEVERAL for case in every)
-    if several < LEAST:
-        fail(f"{several} calls of run and listing, {LEAST} are wanted")
+    words = counted(every)
     stream = stream_of(every)
     with tempfile.TemporaryDirectory() as folder:
         program = check.compiled(folder, "evaluator",
@@ -116,7 +155,7 @@ def check_all():
     held("stdout", text.encode(), "the evaluator prints")
     check_marked(text)
     check_answers(every, text)
-    print(f"trials ok, {len(every)} calls, {several} of run and listing")
+    print(f"trials ok, {len(every)} calls, {words}")
 
 
 def tell_marked():

@@ -262,7 +262,7 @@ owned-room f s k (suc n) h =
     ⊎-elim (λ e. subst (λ (m : ℕ). owned f s k + cond (is s (f k)) 1 0 ≤ owned f s m + cond (is s (f m)) 1 0) e (le-refl _))
     (λ l. le-trans (owned-room f s k n l) (le-add-right _ _)) (eq-or-lt-of-le (le-of-suc-le-suc h))
 
-own-room : (owner : ℕ) (p : Pos) (t : ℕ) → p .t1 + 2 * cond (is s1 (site-of owner)) 1 0 ≤ t → p .t2 + 2 * cond (is s2 (site-of owner)) 1 0 ≤ t
+pub own-room : (owner : ℕ) (p : Pos) (t : ℕ) → p .t1 + 2 * cond (is s1 (site-of owner)) 1 0 ≤ t → p .t2 + 2 * cond (is s2 (site-of owner)) 1 0 ≤ t
     → p .t3 + 2 * cond (is s3 (site-of owner)) 1 0 ≤ t → own-place owner p + 2 ≤ t
 unfolding own-place site-of is
 own-room zero p t a b c = c

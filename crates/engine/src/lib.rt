@@ -152,7 +152,7 @@ pub fn gates_pass(
 }
 
 // Where on its owner's tape the two draws of an input stand.
-fn own_place(owner: u8, pos: Pos) -> usize
+pub fn own_place(owner: u8, pos: Pos) -> usize
     ensures { λ r. ⌜ r ≡ own-place owner pos ⌝ }
 {
     if owner == 1 {
@@ -165,7 +165,7 @@ fn own_place(owner: u8, pos: Pos) -> usize
 }
 
 // The places after an input: two bits of its owner's tape, four of the line.
-fn next_input(owner: u8, pos: Pos) -> Pos
+pub fn next_input(owner: u8, pos: Pos) -> Pos
     requires { ⌜ (pos .t1 ≤ 65536) × (pos .t2 ≤ 65536) × (pos .t3 ≤ 65536) × (pos .at ≤ 65536) ⌝ }
     ensures { λ r. ⌜ r ≡ in-pos owner pos ⌝ }
 {

@@ -75,17 +75,17 @@ module _ (C : Circuit) (x : ℕ → ℕ) (tapes line : List ℕ) (o : Trio (List
     m = ands (C .gate) g
 
     -- where the three sites' draws stand
-    abbrev places : Trio ℕ
+    abbrev pub places : Trio ℕ
     places = record { at1 = base C s1 + 2 * (all-owned C s1 + m); at2 = base C s2 + 2 * (all-owned C s2 + m); at3 = base C s3 + 2 * (all-owned C s3 + m) }
 
     -- the bits there are the gate's first draws
-    firsts : dealing (C .gate g) ≡ 1 → (s : Site) → getD tapes (of places s) 0 ≡ T .g1 g s
+    pub firsts : dealing (C .gate g) ≡ 1 → (s : Site) → getD tapes (of places s) 0 ≡ T .g1 g s
     firsts k s1 = sym (drawn-g1 C tapes g s1 hg k)
     firsts k s2 = sym (drawn-g1 C tapes g s2 hg k)
     firsts k s3 = sym (drawn-g1 C tapes g s3 hg k)
 
     -- and those behind them its second
-    seconds : dealing (C .gate g) ≡ 1 → (s : Site) → getD tapes (of places s + 1) 0 ≡ T .g2 g s
+    pub seconds : dealing (C .gate g) ≡ 1 → (s : Site) → getD tapes (of places s + 1) 0 ≡ T .g2 g s
     seconds k s1 = sym (drawn-g2 C tapes g s1 hg k)
     seconds k s2 = sym (drawn-g2 C tapes g s2 hg k)
     seconds k s3 = sym (drawn-g2 C tapes g s3 hg k)

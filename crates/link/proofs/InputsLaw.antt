@@ -81,7 +81,7 @@ module _ (C : Circuit) (i : ℕ) where
   at-owner s3 = refl
 
   -- the places after input i
-  in-place-suc : one-more (in-place C i) (C .owner i) ≡ in-place C (suc i)
+  pub in-place-suc : one-more (in-place C i) (C .owner i) ≡ in-place C (suc i)
   unfolding in-places owned
   in-place-suc = placed-eq (omega arith) (omega arith) (omega arith) (omega arith)
 
@@ -101,7 +101,7 @@ module _ (C : Circuit) (x : ℕ → ℕ) (tapes line : List ℕ) (o : Trio (List
   dealt-at i = deal bits (x i) (T .in1 i) (T .in2 i)
 
   -- the code deals the same
-  deal-is : (i owner : ℕ) → i < C .ins → C .owner i ≡ site-of owner → deal-at bits tapes (own-place owner (in-place C i)) (x i) ≡ sent-of (dealt-at i)
+  pub deal-is : (i owner : ℕ) → i < C .ins → C .owner i ≡ site-of owner → deal-at bits tapes (own-place owner (in-place C i)) (x i) ≡ sent-of (dealt-at i)
   unfolding deal-at
   deal-is i owner h q =
       let p : own-place owner (in-place C i) ≡ base C (C .owner i) + 2 * owned (C .owner) (C .owner i) i

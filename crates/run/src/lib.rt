@@ -72,8 +72,8 @@ fn given_fault(
     }
 }
 
-// Where the three tapes begin: site 1's first.
-fn begin(file: &[u8], c: Counts, a: usize) -> Pos
+// Where the three tapes begin: site 1's first. A view begins there too.
+pub fn begin(file: &[u8], c: Counts, a: usize) -> Pos
     requires { ⌜ Opened (now file) c × (a ≡ ands (circuit (now file) .gate) (c .gates)) × (a ≤ c .gates) ⌝ }
     ensures { λ r. ⌜ r ≡ in-place (circuit (now (file .entry))) 0 ⌝ }
 {

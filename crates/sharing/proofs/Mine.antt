@@ -63,7 +63,7 @@ module _ (G : Group) where
   last-part s3 P h = ap (λ (z : ℕ). rest R z (P .at3) (P .at1)) (sym (turn G (P .at3) (P .at1) (P .at2))) ∙ third-part G (P .at3) (P .at1) (P .at2) (h .in2)
 
   -- a product's pair at s, from s's pairs, the values, the draws
-  product-mine : Site → (Site → ℕ) → (Site → ℕ) → Pair → ℕ → Pair → ℕ → Pair
+  unfoldable pub product-mine : Site → (Site → ℕ) → (Site → ℕ) → Pair → ℕ → Pair → ℕ → Pair
   product-mine s a b p u q v = (
     add (rest R (local R p q) (a s) (b s)) (add (b (next s)) (a (prev s))),
     add (a s) (add (rest R (next-product R p u q v) (a (next s)) (b (next s))) (b (prev s))),
@@ -84,7 +84,7 @@ module _ (G : Group) where
       go s3 = both (sym (turn G _ _ _)) (sym (turn G _ _ _))
 
   -- s's pair of a gate's wire, from s's pairs and the values
-  gate-mine : Site → (Site → ℕ) → (Site → ℕ) → Gate → List Pair → List ℕ → Pair
+  unfoldable pub gate-mine : Site → (Site → ℕ) → (Site → ℕ) → Gate → List Pair → List ℕ → Pair
   gate-mine s a b (XOR i j) ms vs = add-pair R (getD ms i (0, 0)) (getD ms j (0, 0))
   gate-mine s a b (AND i j) ms vs = product-mine s a b (getD ms i (0, 0)) (getD vs i 0) (getD ms j (0, 0)) (getD vs j 0)
   gate-mine s a b (OR i j) ms vs =
@@ -96,7 +96,7 @@ module _ (G : Group) where
   look-mine s2 ps w = sym (List·getD-map (mine s2) ps w no-parts)
   look-mine s3 ps w = sym (List·getD-map (mine s3) ps w no-parts)
 
-  gate-mine-is : (s : Site) (a b : Site → ℕ) (k : Gate) (ps : List Parts) → AllParts Ok ps
+  pub gate-mine-is : (s : Site) (a b : Site → ℕ) (k : Gate) (ps : List Parts) → AllParts Ok ps
       → mine s (gate-parts R a b k ps) ≡ gate-mine s a b k (map (mine s) ps) (map (total R) ps)
   unfolding gate-parts gate-mine
   gate-mine-is s a b (XOR i j) ps h = mine-add s _ _ ∙ ap₂ (add-pair R) (look-mine s ps i) (look-mine s ps j)

@@ -4,7 +4,7 @@
 --     reaches        the same of the run's own transcript on a clean line
 --     copies-reach     the two copies that a site gets at an opening are those of the six bits that reach it
 --     next-takes, prev-takes, mix-takes    what a site takes from a deal is what of the delivered bits reaches it, on any line
---     got-length       a site gets 2 bits of every other's input, 4 of every AND and OR, 2 of every opening
+--     ins-got-length, gates-got-length, got-length    a site gets 2 bits of every other's input, 4 of every AND and OR, 2 of every opening
 -- Assumes nothing.
 use mathlib.Core.Path.{_≡_, refl, sym, ap, ap₂, _∙_}
 use mathlib.Core.Bool.{true, false, cond}
@@ -167,7 +167,7 @@ got-four R s2 v a b = refl
 got-four R s3 v a b = refl
 
 module _ (R : Ops) (s : Site) (C : Circuit) (x : ℕ → ℕ) (T : Draws) where
-  ins-got-length : (i : ℕ) → length (ins-got R s C x T i) + 2 * owned (C .owner) s i ≡ 2 * i
+  pub ins-got-length : (i : ℕ) → length (ins-got R s C x T i) + 2 * owned (C .owner) s i ≡ 2 * i
   unfolding ins-got owned
   ins-got-length zero = refl
   ins-got-length (suc i) =
@@ -176,7 +176,7 @@ module _ (R : Ops) (s : Site) (C : Circuit) (x : ℕ → ℕ) (T : Draws) where
       let l = length-append (ins-got R s C x T i) (got s (C .owner i) (mine s (share R (C .owner i) (x i) (T .in1 i) (T .in2 i)))) in
       omega arith
 
-  gates-got-length : (g : ℕ) → length (gates-got R s C x T g) + 2 * all-owned C s ≡ 2 * C .ins + 4 * ands (C .gate) g
+  pub gates-got-length : (g : ℕ) → length (gates-got R s C x T g) + 2 * all-owned C s ≡ 2 * C .ins + 4 * ands (C .gate) g
   unfolding gates-got ands
   gates-got-length zero = let k = ins-got-length (C .ins) in omega arith
   gates-got-length (suc g) =

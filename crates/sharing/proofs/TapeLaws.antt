@@ -90,7 +90,7 @@ deals-many (OR i j) l = omega arith
 deals-many (NOT i) l = omega arith
 
 module _ (C : Circuit) (T : Draws) (s : Site) where
-  ins-length : (i : ℕ) → length (ins-tape C T s i) ≡ 2 * owned (C .owner) s i
+  pub ins-length : (i : ℕ) → length (ins-tape C T s i) ≡ 2 * owned (C .owner) s i
   unfolding ins-tape owned
   ins-length zero = refl
   ins-length (suc i) =
@@ -134,7 +134,7 @@ cut-join C ls h = λ i. record { at1 = e1 i; at2 = e2 i; at3 = e3 i }
     e3 : drop (tape-length C s1 + tape-length C s2) (join ls) ≡ ls .at3
     e3 = drop-at (ls .at1 ++ ls .at2) (ls .at3) _ (length-append (ls .at1) (ls .at2) ∙ ap₂ _+_ (h .sized s1) (h .sized s2))
 
-join-cut : (C : Circuit) (t : List ℕ) → join (cut C t) ≡ t
+pub join-cut : (C : Circuit) (t : List ℕ) → join (cut C t) ≡ t
 join-cut C t =
     append-assoc (take (tape-length C s1) t) _ _
     ∙ ap (λ l. take (tape-length C s1) t ++ (take (tape-length C s2) (drop (tape-length C s1) t) ++ l)) (sym (drop-drop (tape-length C s2) (tape-length C s1) t))

@@ -1,6 +1,7 @@
 -- A site's view, as specs/View.antt says it, is what it sees of the published parts; its length; what it shows.
 --     view-is          the two forms are one, for tapes of the right length
 --     view-length      2I + Is + 6A + 3O
+--     own-many, totals-many    how many own inputs and opened values there are
 --     shown            equal views have equal own inputs and equal opened values
 -- Assumes nothing.
 use mathlib.Core.Path.{_≡_, refl, sym, ap, ap₂, _∙_}
@@ -62,12 +63,12 @@ own-one s t itself a = ap length (own-itself s _) ∙ ap (λ c. cond c 1 0) (sym
 own-one s t behind a = ap length (own-behind s _) ∙ ap (λ c. cond c 1 0) (sym (is-behind s))
 own-one s t before a = ap length (own-before s _) ∙ ap (λ c. cond c 1 0) (sym (is-before s))
 
-own-many : (s : Site) (C : Circuit) (x : ℕ → ℕ) (i : ℕ) → length (own-ins s C x i) ≡ owned (C .owner) s i
+pub own-many : (s : Site) (C : Circuit) (x : ℕ → ℕ) (i : ℕ) → length (own-ins s C x i) ≡ owned (C .owner) s i
 unfolding own-ins owned
 own-many s C x zero = refl
 own-many s C x (suc i) = length-append (own-ins s C x i) _ ∙ ap₂ _+_ (own-many s C x i) (own-one s (C .owner i) (seen s (C .owner i)) (x i))
 
-totals-many : (R : Ops) (s : Site) (C : Circuit) (x : ℕ → ℕ) (T : Draws) (n : ℕ) → length (seen-totals R s C x T n) ≡ n
+pub totals-many : (R : Ops) (s : Site) (C : Circuit) (x : ℕ → ℕ) (T : Draws) (n : ℕ) → length (seen-totals R s C x T n) ≡ n
 unfolding seen-totals
 totals-many R s C x T zero = refl
 totals-many R s C x T (suc n) = length-append (seen-totals R s C x T n) _ ∙ (let k = totals-many R s C x T n in omega arith)

@@ -1,16 +1,20 @@
 // Reads a stream of calls from standard input, makes each of them and prints what it answers. docs/TRIALS.md has the form of both.
 mod jobs;
+mod retapes;
+mod rooms;
 mod several;
 mod single;
+mod values;
+mod views;
 
 use stream::input;
 use stream::input::Read;
 use stream::print;
 
-// Whether the program makes the call of this number.
+// Whether there is a call of this number.
 fn made(which: usize) -> bool {
     match which {
-        1..=5 | 7 | 10 | 11 => true,
+        1..=11 => true,
         _ => false,
     }
 }
@@ -29,10 +33,18 @@ fn call() -> bool {
     let Read::Is(number) = asked else {
         return false;
     };
-    if which == 7 {
-        return several::run();
+    make(which, number)
+}
+
+// The call by its number: those that take several slices, or else one that takes a single one.
+fn make(which: usize, number: usize) -> bool {
+    match which {
+        6 => values::plain(),
+        7 => several::run(),
+        8 => views::view(number),
+        9 => retapes::retape(number),
+        _ => single::call(which, number),
     }
-    single::call(which, number)
 }
 
 // A proved loop has to end, and nothing says that a stream does. So the loop counts its turns down, from a number that no stream uses up.

@@ -1,53 +1,15 @@
-// The calls that take several slices. Each slice has a room of its own, for what the largest circuit needs and some bytes more.
-ghost use mathlib.Core.Path.{_≡_};
-ghost use lib.ListN.{length};
+// The run. Each slice has a room of its own.
+use crate::rooms;
 use run::Ran;
 use stream::input;
 use stream::print;
 
-// Rooms. What stands in them at first is nobody's business, and a proof that goes past a room need not carry its bytes.
-fn room_1024() -> [u8; 1024]
-    ensures { λ r. ⌜ 1024 ≡ length r ⌝ }
-{
-    [0; 1024]
-}
-
-fn room_1280() -> [u8; 1280]
-    ensures { λ r. ⌜ 1280 ≡ length r ⌝ }
-{
-    [0; 1280]
-}
-
-fn room_20480() -> [u8; 20480]
-    ensures { λ r. ⌜ 20480 ≡ length r ⌝ }
-{
-    [0; 20480]
-}
-
-fn room_20992() -> [u8; 20992]
-    ensures { λ r. ⌜ 20992 ≡ length r ⌝ }
-{
-    [0; 20992]
-}
-
-fn room_25088() -> [u8; 25088]
-    ensures { λ r. ⌜ 25088 ≡ length r ⌝ }
-{
-    [0; 25088]
-}
-
-fn room_43008() -> [u8; 43008]
-    ensures { λ r. ⌜ 43008 ≡ length r ⌝ }
-{
-    [0; 43008]
-}
-
 // Reads what a run is given, then what it is lent, makes the call and answers whether to go on.
 pub fn run() -> bool {
-    let mut file = room_20480();
-    let mut inputs = room_1280();
-    let mut tapes = room_20992();
-    let mut line = room_43008();
+    let mut file = rooms::room_20480();
+    let mut inputs = rooms::room_1280();
+    let mut tapes = rooms::room_20992();
+    let mut line = rooms::room_43008();
     let f = input::slice(true, &mut file);
     let i = input::slice(f.whole, &mut inputs);
     let t = input::slice(i.whole, &mut tapes);
@@ -67,9 +29,9 @@ pub fn run() -> bool {
 
 // `on` says whether what is given was whole.
 fn run_given(on: bool, file: &[u8], inputs: &[u8], tapes: &[u8], line: &[u8]) -> bool {
-    let mut outputs = room_1024();
-    let mut transcript = room_43008();
-    let mut store = room_25088();
+    let mut outputs = rooms::room_1024();
+    let mut transcript = rooms::room_43008();
+    let mut store = rooms::room_25088();
     let o = input::slice(on, &mut outputs);
     let t = input::slice(o.whole, &mut transcript);
     let s = input::slice(t.whole, &mut store);

@@ -1,3 +1,4 @@
 pub mod Promise
 pub mod Right
 pub mod ShutOut
+pub mod RetapingShutOut

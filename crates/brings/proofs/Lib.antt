@@ -1,0 +1,3 @@
+pub mod StepLaws
+pub mod GateLaws
+pub mod GatesLaws

@@ -1,0 +1,37 @@
+use borrow.Author.Needs.{needs}
+use native.Mathlib.Omega.{arith}
+use Rattle.circuit.proofs.ReaderLaws.{output-none}
+use Rattle.differs.proofs.DiffersLaws.{opened-law, opened-low}
+use Rattle.differs.proofs.opened_bad.Statement.{statement}
+use Rattle.differs.proofs.opened_bad.Tie as tie
+
+returns : tie.Need-returns
+returns c = absurd (output-none _ _ _ _ _ _ (c .before .before .output-with .ensures) (c .enum-told .given .1) (c .before .before .before .before .before .before .pre .1))
+
+shared-slice-read-result : tie.Need-shared-slice-read-result
+shared-slice-read-result c =
+    let p = c .before .before .before .before .before .before .before .before .pre in let l = p .2 in let h = opened-low _ _ _ _ _ (c .before .before .before .before .output-with .ensures) (c .before .before .a .given .1) (p .1) (p .0) in
+    omega arith
+
+shared-slice-read-result-2 : tie.Need-shared-slice-read-result-2
+shared-slice-read-result-2 c =
+    let p = c .before .before .before .before .before .before .before .before .before .pre in let l = p .2 in let h = opened-low _ _ _ _ _ (c .before .before .before .before .before .output-with .ensures) (c .before .before .before .a .given .1) (p .1) (p .0) in
+    omega arith
+
+returns-2 : tie.Need-returns-2
+returns-2 c = opened-law _ _ _ _ _ (c .before .before .before .before .before .output-with .ensures) (c .before .before .before .a .given .1) (c .before .before .before .before .before .before .before .before .before .pre .1) _
+
+pub opened-bad-spec : {M : Type 1} → statement M
+opened-bad-spec =
+    tie.close
+    (tie.spec
+    (λ c. search needs)
+    (λ c κs. search needs)
+    (λ c. search needs)
+    (λ c. search needs)
+    returns
+    (λ c. search needs)
+    shared-slice-read-result
+    (λ c. search needs)
+    shared-slice-read-result-2
+    returns-2)

@@ -1,0 +1,2 @@
+pub mod ValueLaws
+pub mod PlainCall

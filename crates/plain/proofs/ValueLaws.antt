@@ -1,0 +1,152 @@
+-- What the passes leave are the plain values.
+--     kind-law                     a gate's value on bytes is its Boolean value
+--     inputs-law, gates-law        buffers after the first k inputs, and after the first k gates
+--     read-gate                    a step with what was read of a gate is a step with what stands in the file
+--     inputs-turn, gates-turn      one more input, one more gate
+--     values-law                   both passes, at the counts that the code holds
+-- Assumes nothing.
+use mathlib.Core.Path.{_≡_, refl, sym, ap, ap₂, _∙_, subst}
+use mathlib.Core.Bool.{Bool, true, false, _||_}
+use mathlib.Core.List.{List, [], _∷_, _++_, map}
+use Prim.Native.Nat.{ℕ, zero, suc, _+_, _<_, _≤_}
+use native.Mathlib.Omega.{arith}
+use native.Mathlib.Numerals.{add-one}
+use lib.ListN.{length, getD, set, length-map, List·getD-map}
+use lib.Bits.{bitOr}
+use borrow.Author.Tests.{ne-eqb}
+use Rattle.sharing.specs.Circuit.{Circuit, wires}
+use Rattle.sharing.specs.Store.{fill}
+use Rattle.sharing.proofs.Parts.{map-snoc}
+use Rattle.sharing.proofs.StoreLaws.{fill-one, fill-read, fill-all}
+use Rattle.scope.specs.File.{inputs-of, gates-of, kind-at, first-at, second-at, gate-of, circuit}
+use Rattle.scope.specs.Plain.{bit, byte, plain-gate, plain-inputs, plain-values, plain}
+use Rattle.scope.proofs.PlainLaws.{byte-xor, byte-and, byte-not, inputs-length, values-length, plain-length}
+use Rattle.header.specs.declared.Counts.{Counts}
+use Rattle.circuit.specs.declared.Gate.{Gate}
+use Rattle.circuit.specs.declared.Gate.the-variants.{Is as GateIs}
+use Rattle.circuit.specs.Mirror.{gate-by}
+use Rattle.circuit.proofs.ReaderLaws.{gate-some}
+use Rattle.checks.specs.Mirror.{Checked}
+use Rattle.checks.proofs.FrontLaws.{operands-lower}
+use Rattle.plain.specs.Mirror.{kind-value, inputs-on, gate-on, gates-on}
+
+byte-either : (a b : Bool) → byte (a || b) ≡ bitOr (byte a) (byte b)
+unfolding byte
+byte-either true true = refl
+byte-either true false = refl
+byte-either false true = refl
+byte-either false false = refl
+
+pub kind-law : (kind a b : ℕ) (vs : List Bool) → kind-value kind (byte (getD vs a false)) (byte (getD vs b false)) ≡ byte (plain-gate (gate-of kind a b) vs)
+unfolding kind-value plain-gate gate-of
+kind-law zero a b vs = sym (byte-either (getD vs a false) (getD vs b false))
+kind-law (suc zero) a b vs = sym (byte-xor (getD vs a false) (getD vs b false))
+kind-law (suc (suc zero)) a b vs = sym (byte-and (getD vs a false) (getD vs b false))
+kind-law (suc (suc (suc zero))) a b vs = sym (byte-not (getD vs a false))
+kind-law (suc (suc (suc (suc n)))) a b vs =
+    let k : ℕ = suc (suc (suc (suc n))) in
+    rw (ne-eqb k 1 (λ e. omega arith), ne-eqb k 2 (λ e. omega arith), ne-eqb k 3 (λ e. omega arith)) (sym (byte-either (getD vs a false) (getD vs b false)))
+
+-- what was written is read back
+wire-read : (old : List ℕ) (vs : List Bool) (w : ℕ) → w < length vs → getD (fill old (map byte vs)) w 0 ≡ byte (getD vs w false)
+unfolding byte
+wire-read old vs w h = fill-read old (map byte vs) w (let e = length-map vs byte in omega arith) ∙ List·getD-map byte vs w false
+
+-- the next wire is written
+wire-on : (old : List ℕ) (vs : List Bool) (k : ℕ) (v : Bool) → length vs ≡ k → k < length old → set (fill old (map byte vs)) k (byte v) ≡ fill old (map byte (vs ++ (v ∷ [])))
+wire-on old vs k v e h = fill-one old (map byte vs) k (byte v) (length-map vs byte ∙ e) h ∙ ap (fill old) (sym (map-snoc byte vs v))
+
+module _ (f xs old : List ℕ) where
+  abbrev C : Circuit
+  C = circuit f
+
+  abbrev laid : ℕ → List ℕ
+  laid g = fill old (map byte (plain-values C xs g))
+
+  inputs-law : (k : ℕ) → k ≤ length old → inputs-on xs old k ≡ fill old (map byte (plain-inputs xs k))
+  unfolding inputs-on plain-inputs fill
+  inputs-law zero h = refl
+  inputs-law (suc k) h =
+      ap (λ (z : List ℕ). set z k (byte (bit (getD xs k 0)))) (inputs-law k (omega arith))
+      ∙ wire-on old (plain-inputs xs k) k (bit (getD xs k 0)) (inputs-length C xs k) (omega arith)
+
+  module _ (d : (k : ℕ) → k < gates-of f → (first-at f (inputs-of f) k < inputs-of f + k) × (second-at f (inputs-of f) k < inputs-of f + k)) (l : length old ≡ wires C) where
+    gate-law : (g : ℕ) → g < gates-of f → gate-on f (inputs-of f) g (laid g) ≡ laid (suc g)
+    unfolding gate-on plain-values
+    gate-law g h =
+        let vs : List Bool = plain-values C xs g in
+        let e = values-length C xs g in
+        let i : ℕ = inputs-of f in
+        let p = d g h in
+        ap₂ (λ (x y : ℕ). set (laid g) (i + g) (kind-value (kind-at f i g) x y)) (wire-read old vs (first-at f i g) (omega arith)) (wire-read old vs (second-at f i g) (omega arith))
+        ∙ ap (set (laid g) (i + g)) (kind-law (kind-at f i g) (first-at f i g) (second-at f i g) vs)
+        ∙ wire-on old vs (i + g) (plain-gate (C .gate g) vs) e (omega arith)
+
+    gates-law : (g : ℕ) → g ≤ gates-of f → gates-on f (inputs-of f) (laid 0) g ≡ laid g
+    unfolding gates-on
+    gates-law zero h = refl
+    gates-law (suc g) h = ap (gate-on f (inputs-of f) g) (gates-law g (omega arith)) ∙ gate-law g (omega arith)
+
+    both-passes : gates-on f (inputs-of f) (inputs-on xs old (inputs-of f)) (gates-of f) ≡ plain C xs
+    unfolding plain plain-values
+    both-passes =
+        ap (λ (z : List ℕ). gates-on f (inputs-of f) z (gates-of f)) (inputs-law (inputs-of f) (omega arith))
+        ∙ gates-law (gates-of f) (omega arith) ∙ fill-all old (plain C xs) (plain-length C xs ∙ sym l)
+
+-- ---- as the code meets them
+
+-- a step with what was read of a gate
+pub read-gate : (f vs : List ℕ) (c : Counts) (k kind a b v : ℕ) (r : Gate) → r ≡ gate-by f c k → r ≡ GateIs kind a b → k < c .gates → v ≡ kind-value kind (getD vs a 0) (getD vs b 0)
+    → set vs (c .inputs + k) v ≡ gate-on f (c .inputs) k vs
+unfolding gate-on
+read-gate f vs c k kind a b v r e q h m =
+    let s = gate-some f c k kind a b r e q h in
+    ap (set vs (c .inputs + k)) (m ∙ (λ i. kind-value (s .0 i) (getD vs (s .1 i) 0) (getD vs (s .2 i) 0)))
+
+-- whose operands are lower wires
+pub read-lower : (f : List ℕ) (c : Counts) (k kind a b : ℕ) (r : Gate) → Checked f c → r ≡ gate-by f c k → r ≡ GateIs kind a b → k < c .gates → (a < c .inputs + k) × (b < c .inputs + k)
+read-lower f c k kind a b r o e q h =
+    let s = gate-some f c k kind a b r e q h in
+    let l = operands-lower _ _ _ _ (o .gates k h) in
+    let p = s .1 in let t = s .2 in
+    (omega arith, omega arith)
+
+-- an input's value
+pub input-none : (x : ℕ) → x ≡ 0 → 0 ≡ byte (bit x)
+unfolding byte bit
+input-none x e = rw e
+
+pub input-some : (x : ℕ) → (x ≡ 0 → ⊥) → 1 ≡ byte (bit x)
+unfolding byte bit
+input-some zero h = absurd (h refl)
+input-some (suc x) h = refl
+
+pub inputs-none : (xs vs : List ℕ) → vs ≡ inputs-on xs vs 0
+unfolding inputs-on
+inputs-none xs vs = refl
+
+pub inputs-turn : (xs old vs vs′ : List ℕ) (k : ℕ) → vs ≡ inputs-on xs old k → vs′ ≡ set vs k (byte (bit (getD xs k 0))) → vs′ ≡ inputs-on xs old (k + 1)
+unfolding inputs-on
+inputs-turn xs old vs vs′ k e q = q ∙ ap (λ (z : List ℕ). set z k (byte (bit (getD xs k 0)))) e ∙ ap (inputs-on xs old) (sym (add-one k))
+
+pub gates-none : (f : List ℕ) (i : ℕ) (vs : List ℕ) → vs ≡ gates-on f i vs 0
+unfolding gates-on
+gates-none f i vs = refl
+
+pub gates-turn : (f : List ℕ) (i : ℕ) (old vs vs′ : List ℕ) (k : ℕ) → vs ≡ gates-on f i old k → vs′ ≡ gate-on f i k vs → vs′ ≡ gates-on f i old (k + 1)
+unfolding gates-on
+gates-turn f i old vs vs′ k e q = q ∙ ap (gate-on f i k) e ∙ ap (gates-on f i old) (sym (add-one k))
+
+-- both passes, at the counts that the code holds
+pub values-law : (f xs old vs vs′ : List ℕ) (c : Counts) → Checked f c → length xs ≡ c .inputs → length old ≡ c .inputs + c .gates
+    → vs ≡ inputs-on xs old (length xs) → vs′ ≡ gates-on f (c .inputs) vs (c .gates) → vs′ ≡ plain (circuit f) xs
+values-law f xs old vs vs′ c k x l e q =
+    let o = k .opened in
+    let i = o .ins-are in
+    let g = o .gates-are in
+    q ∙ ap (λ (z : List ℕ). gates-on f (c .inputs) z (c .gates)) (e ∙ ap (inputs-on xs old) x)
+    ∙ (λ j. gates-on f (i j) (inputs-on xs old (i j)) (g j))
+    ∙ both-passes f xs old (λ n h. at-file n h) (omega arith)
+  where
+    at-file : (n : ℕ) → n < gates-of f → (first-at f (inputs-of f) n < inputs-of f + n) × (second-at f (inputs-of f) n < inputs-of f + n)
+    at-file n h = let g = k .opened .gates-are in subst (λ (i : ℕ). (first-at f i n < i + n) × (second-at f i n < i + n)) (k .opened .ins-are) (operands-lower _ _ _ _ (k .gates n (omega arith)))

@@ -1,0 +1,36 @@
+use borrow.Author.Needs.{needs}
+use mathlib.Core.Path.{_≡_, refl, ap, _∙_}
+use Prim.Native.Nat.{_-_, _≤_}
+use native.Mathlib.Nat.{le-antisymm}
+use lib.ListN.{length}
+use Rattle.plain.specs.Mirror.{gates-on}
+use Rattle.plain.proofs.ValueLaws.{gates-none, gates-turn}
+use Rattle.plain.proofs.gates_pass.Statement.{statement}
+use Rattle.plain.proofs.gates_pass.Tie as tie
+
+abbrev Inv-loop : tie.InvT-loop
+Inv-loop file c values₀ n k₀ values k = (k ≤ n) × (values ≡ gates-on file (c .inputs) values₀ k) × (length values ≡ length values₀)
+
+abbrev μ-loop : tie.MeasureT-loop
+μ-loop file c values₀ n k₀ values k = n - k
+
+loop-holds : tie.Need-loop-holds Inv-loop μ-loop
+loop-holds c = (search needs, gates-none _ _ _, refl)
+
+gate-step-requires : tie.Need-gate-step-requires Inv-loop μ-loop
+gate-step-requires c κs =
+    let p = c .before .before .before .before .before .pre in
+    ((p .0, c .before .loop-test .taken), c .before .before .loop .inv .2 ∙ p .1)
+
+loop-again : tie.Need-loop-again Inv-loop μ-loop
+loop-again c =
+    let l = c .before .before .before .before .before .loop in let r = c .before .before .gate-step in
+    (search needs, gates-turn _ _ _ _ _ _ (l .inv .1) (r .ensures), r .kept .1 .1 .0 ∙ l .inv .2)
+
+returns : tie.Need-returns Inv-loop μ-loop
+returns c = let l = c .before .loop .inv in l .1 ∙ ap (gates-on _ _ _) (le-antisymm (l .0) (c .loop-test .left))
+
+pub gates-pass-spec : {M : Type 1} → statement M
+gates-pass-spec =
+    tie.close
+    (tie.spec Inv-loop μ-loop loop-holds gate-step-requires (λ c. search needs) (λ c. search needs) loop-again (λ c. search needs) returns)

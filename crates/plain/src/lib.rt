@@ -1,0 +1,137 @@
+// Plain values: the Boolean value of every wire, with no sharing. One pass over the inputs, one over the gates.
+ghost use mathlib.Core.Path.{_≡_};
+ghost use Prim.Native.Nat.{_+_, _<_, _≤_};
+ghost use lib.ListN.{length, getD, set};
+ghost use Rattle.scope.specs.File.{circuit};
+ghost use Rattle.scope.specs.Plain.{bit, byte, plain};
+ghost use Rattle.scope.specs.Calls.{Plain, does};
+ghost use Rattle.checks.specs.Mirror.{Checked};
+ghost use Rattle.plain.specs.Answers.{plain-after};
+ghost use Rattle.plain.specs.Mirror.{kind-value, inputs-on, gate-on, gates-on, refusal-of};
+use circuit::Gate;
+use header::Counts;
+use header::Header;
+
+// Good; a refusal's number and place.
+pub enum Valued {
+    Good,
+    Refused(usize, usize),
+}
+
+// An input's value: 1 for every byte but 0, so that nobody has to know here that inputs are bits.
+fn input_value(x: u8) -> u8
+    ensures { λ r. ⌜ r ≡ byte (bit x) ⌝ }
+{
+    if x == 0 {
+        return 0;
+    }
+    1
+}
+
+// A gate's value by its kind, from the values of its operands.
+fn gate_value(kind: u16, x: u8, y: u8) -> u8
+    ensures { λ r. ⌜ r ≡ kind-value kind x y ⌝ }
+{
+    if kind == 1 {
+        return x ^ y;
+    }
+    if kind == 2 {
+        return x & y;
+    }
+    if kind == 3 {
+        return x ^ 1;
+    }
+    x | y
+}
+
+// Input k makes wire k.
+fn input_step(xs: &[u8], values: &mut [u8], k: usize)
+    requires { ⌜ (k < length (now xs)) × (k < length (now values)) ⌝ }
+    ensures { λ _. ⌜ now (values .exit) ≡ set (now (values .entry)) k (byte (bit (getD (now (xs .entry)) k 0))) ⌝ }
+{
+    let v = input_value(xs[k]);
+    values[k] = v;
+}
+
+// Gate k of a checked file makes wire I + k. NOT's second is 0: what stands there is looked at and not used.
+fn gate_step(file: &[u8], c: Counts, values: &mut [u8], k: usize)
+    requires { ⌜ Checked (now file) c × (k < c .gates) ⌝ }
+    requires { ⌜ length (now values) ≡ c .inputs + c .gates ⌝ }
+    ensures { λ _. ⌜ now (values .exit) ≡ gate-on (now (file .entry)) (c .inputs) k (now (values .entry)) ⌝ }
+{
+    let w = c.inputs + k;
+    let r = circuit::gate_with(file, c, k);
+    let Gate::Is(kind, a, b) = r else {
+        return;
+    };
+    let x = values[a as usize];
+    let y = values[b as usize];
+    let v = gate_value(kind, x, y);
+    values[w] = v;
+}
+
+// All inputs, one after the other.
+fn inputs_pass(xs: &[u8], values: &mut [u8])
+    requires { ⌜ length (now xs) ≤ length (now values) ⌝ }
+    ensures { λ _. ⌜ now (values .exit) ≡ inputs-on (now (xs .entry)) (now (values .entry)) (length (now (xs .entry))) ⌝ }
+{
+    let n = xs.len();
+    let mut k: usize = 0;
+    while k < n {
+        input_step(xs, values, k);
+        k += 1;
+    }
+}
+
+// All gates, one after the other.
+fn gates_pass(file: &[u8], c: Counts, values: &mut [u8])
+    requires { ⌜ Checked (now file) c ⌝ }
+    requires { ⌜ length (now values) ≡ c .inputs + c .gates ⌝ }
+    ensures { λ _. ⌜ now (values .exit) ≡ gates-on (now (file .entry)) (c .inputs) (now (values .entry)) (c .gates) ⌝ }
+{
+    let n = c.gates;
+    let mut k: usize = 0;
+    while k < n {
+        gate_step(file, c, values, k);
+        k += 1;
+    }
+}
+
+// The values of all wires of a checked circuit, in a buffer, or a part of one, of W bytes. What stood there does not matter.
+pub fn values_pass(file: &[u8], c: Counts, xs: &[u8], values: &mut [u8])
+    requires { ⌜ Checked (now file) c × (length (now xs) ≡ c .inputs) ⌝ }
+    requires { ⌜ length (now values) ≡ c .inputs + c .gates ⌝ }
+    ensures { λ _. ⌜ now (values .exit) ≡ plain (circuit (now (file .entry))) (now (xs .entry)) ⌝ }
+{
+    inputs_pass(xs, values);
+    gates_pass(file, c, values);
+}
+
+// A refusal of the circuit as this call's answer has it. A good header has none; nobody asks.
+fn refused(h: Header) -> Valued
+    ensures { λ r. ⌜ r ≡ refusal-of h ⌝ }
+{
+    match h {
+        Header::Good(_) => Valued::Refused(0, 0),
+        Header::Refused(n, p) => Valued::Refused(n, p),
+    }
+}
+
+// PUBLIC. The plain values of all wires, whatever is given, in a lent buffer of W bytes; a refusal leaves it as it was.
+pub fn plain_values(file: &[u8], inputs: &[u8], values: &mut [u8]) -> Valued
+    ensures { λ r. ⌜ plain-after r (now (values .exit)) ≡ does (Plain (now (file .entry)) (now (inputs .entry)) (now (values .entry))) ⌝ }
+{
+    let h = checks::check_file(file);
+    let Header::Good(c) = h else {
+        return refused(h);
+    };
+    let x = checks::bits_fault(inputs, c.inputs);
+    if x <= c.inputs {
+        return Valued::Refused(7, x);
+    }
+    if values.len() != c.inputs + c.gates {
+        return Valued::Refused(10, 0);
+    }
+    values_pass(file, c, inputs, values);
+    Valued::Good
+}

@@ -1,0 +1,119 @@
+// Re-taping: the tapes that explain one site's view by other inputs.
+ghost use mathlib.Core.Path.{_≡_};
+ghost use mathlib.Core.List.{[], _∷_};
+ghost use Prim.Native.Nat.{ℕ, _≤_};
+ghost use Rattle.sharing.specs.Circuit.{ands};
+ghost use Rattle.scope.specs.File.{circuit};
+ghost use Rattle.scope.specs.Checks.{verdict};
+ghost use Rattle.scope.specs.Calls.{Retape, does};
+ghost use Rattle.header.specs.Mirror.{Opened};
+ghost use Rattle.given.specs.Mirror.{found};
+ghost use Rattle.retape.specs.Answers.{retape-after};
+ghost use Rattle.retape.specs.Mirror.{retape-given, refusal-of};
+use given::Fault;
+use header::Counts;
+use header::Header;
+
+// Good; a refusal's number and place.
+pub enum Retaped {
+    Good,
+    Refused(usize, usize),
+}
+
+// 7, 8, 11, 10 and 12 on an opened circuit of a AND and OR gates: slices, the site, the lengths of both buffers, the second inputs.
+fn given_fault(
+    file: &[u8],
+    c: Counts,
+    a: usize,
+    xs: &[u8],
+    tapes: &[u8],
+    ys: &[u8],
+    site: usize,
+    fresh: usize,
+    room: usize,
+) -> Fault
+    requires { ⌜ Opened (now file) c × (a ≡ ands (circuit (now file) .gate) (c .gates)) × (a ≤ c .gates) ⌝ }
+    ensures { λ r. ⌜ found r ≡ verdict (retape-given (now (file .entry)) (now (xs .entry)) (now (tapes .entry)) (now (ys .entry)) site fresh room) (7 ∷ 8 ∷ 11 ∷ 10 ∷ 12 ∷ []) ⌝ }
+{
+    let f = given::slices_fault(file, c, a, xs, tapes);
+    if f.number != 0 {
+        return f;
+    }
+    if !faults::site_good(site) {
+        return Fault {
+            number: 11,
+            place: 0,
+        };
+    }
+    let sizes = [fresh, room];
+    let wants = [2 * c.inputs + 6 * a, 4 * (c.inputs + c.gates)];
+    let b = checks::first_size(&sizes, &wants);
+    if b < 2 {
+        return Fault {
+            number: 10,
+            place: b,
+        };
+    }
+    let y = checks::bits_fault(ys, c.inputs);
+    if y <= c.inputs {
+        return Fault {
+            number: 12,
+            place: y,
+        };
+    }
+    Fault {
+        number: 0,
+        place: 0,
+    }
+}
+
+// A refusal of the circuit as re-taping's answer has it. A good header has none; nobody asks.
+fn refused(h: Header) -> Retaped
+    ensures { λ r. ⌜ r ≡ refusal-of h ⌝ }
+{
+    match h {
+        Header::Good(_) => Retaped::Refused(0, 0),
+        Header::Refused(n, p) => Retaped::Refused(n, p),
+    }
+}
+
+// PUBLIC. Re-taping, whatever is given. New tapes and work room are lent; a refusal leaves both as they were, but 13 leaves both sets of
+// plain values in the first 2W bytes of the work room.
+pub fn retape(
+    file: &[u8],
+    inputs: &[u8],
+    tapes: &[u8],
+    second: &[u8],
+    site: usize,
+    fresh: &mut [u8],
+    room: &mut [u8],
+) -> Retaped
+    ensures { λ r. ⌜ retape-after r (now (fresh .exit)) (now (room .exit)) ≡ does (Retape (now (file .entry)) (now (inputs .entry)) (now (tapes .entry)) (now (second .entry)) site (now (fresh .entry)) (now (room .entry))) ⌝ }
+{
+    let h = checks::check_file(file);
+    let Header::Good(c) = h else {
+        return refused(h);
+    };
+    let a = checks::count_ands(file, c);
+    let f = given_fault(
+        file,
+        c,
+        a,
+        inputs,
+        tapes,
+        second,
+        site,
+        fresh.len(),
+        room.len(),
+    );
+    if f.number != 0 {
+        return Retaped::Refused(f.number, f.place);
+    }
+    renew::both_values(file, c, inputs, second, room);
+    let d = differs::differ(file, c, site, inputs, second, room);
+    if d < c.inputs + c.outputs {
+        return Retaped::Refused(13, d);
+    }
+    renew::renew(file, c, a, site, inputs, second, tapes, fresh, room);
+    Retaped::Good
+}

@@ -1,0 +1,117 @@
+-- The pass over the inputs, as one site sees it, is the document's.
+--     on-none                    a clean line adds nothing
+--     pairs-are, mine-of         the pairs of an input; the site's is what it gets
+--     see-is                     it gets it unless it is its own
+--     in-step                    one input: from the document's state to the next
+use mathlib.Core.Path.{_≡_, refl, sym, ap, _∙_}
+use mathlib.Core.Bool.{Bool, true, false, cond}
+use mathlib.Core.List.{List, [], _∷_, _++_, append-nil}
+use Prim.Native.Nat.{ℕ, zero, suc, _+_, _*_, _≤_, _<_}
+use native.Mathlib.Omega.{arith}
+use lib.ListN.{length, length-append}
+use lib.Dec.{eqb·suc-zero, eqb·suc-suc}
+use Rattle.sharing.specs.Ops.{bits}
+use Rattle.sharing.specs.Sites.{Site, s1, s2, s3, Trio, is}
+use Rattle.sharing.specs.Circuit.{Circuit, Draws, none, no-errors}
+use Rattle.sharing.specs.Published.{Deal, deal, dealt}
+use Rattle.sharing.specs.Steps.{Pair, Wire, hold, in-wire}
+use Rattle.sharing.specs.Run.{ins-after}
+use Rattle.sharing.specs.Retape.{mine}
+use Rattle.sharing.specs.Tapes.{read}
+use Rattle.sharing.specs.Store.{fill}
+use Rattle.sharing.proofs.Seen.{got, ins-got}
+use Rattle.scope.specs.File.{site-of}
+use Rattle.site.specs.Mirror.{two, four, deal-at, on-line, in-pairs}
+use Rattle.steps.specs.Mirror.{put-held}
+use Rattle.site.specs.declared.Two.{Two}
+use Rattle.site.specs.declared.Four.{Four}
+use Rattle.engine.specs.declared.Pos.{Pos}
+use Rattle.engine.specs.Mirror.{St, st, own-place, in-pos}
+use Rattle.link.specs.Link.{stored, Cut, sent-of, held-of}
+use Rattle.link.specs.Loops.{in-places, in-place}
+use Rattle.link.proofs.BitLinks.{bits-zero}
+use Rattle.link.proofs.FillLaws.{fill-two}
+use Rattle.link.proofs.GatesLaw.{st-eq}
+use Rattle.link.proofs.InLaws.{in-link}
+use Rattle.link.proofs.InputsLaw.{ins-many, in-pos-is, one-more, in-place-suc, deal-is}
+use Rattle.seen.specs.Mirror.{pair-of-site, put-two, see-two, past-two, with-at, input-seen, ins-seen, state-seen}
+
+-- ---- a clean line
+pub on-none : (m : Four) → on-line bits none m ≡ m
+unfolding on-line
+on-none m = λ i. four (bits-zero (m .a) i) (bits-zero (m .b) i) (bits-zero (m .c) i) (bits-zero (m .d) i)
+
+-- ---- an input
+module _ (D : Deal) where
+  -- any owner's number other than 1 and 2 is site 3's
+  pub pairs-are : (owner : ℕ) → in-pairs owner (sent-of D) (sent-of D) ≡ held-of (hold (dealt (site-of owner) D))
+  unfolding in-pairs site-of
+  pairs-are zero = refl
+  pairs-are (suc zero) = refl
+  pairs-are (suc (suc zero)) = refl
+  pairs-are (suc (suc (suc k))) =
+      rw (eqb·suc-suc (suc (suc k)) 0, eqb·suc-zero (suc k), eqb·suc-suc (suc (suc k)) 1, eqb·suc-suc (suc k) 0, eqb·suc-zero k)
+
+  pub mine-of : (s t : Site) → pair-of-site s (held-of (hold (dealt t D))) ≡ two (mine s (dealt t D) .0) (mine s (dealt t D) .1)
+  unfolding pair-of-site
+  mine-of s1 t = refl
+  mine-of s2 t = refl
+  mine-of s3 t = refl
+
+-- what reaches the site is what is written, and moves its place on
+module _ (old done : List ℕ) (p : Pair) where
+  see-by : (b : Bool) (own at : ℕ) → own ≡ cond b 1 0 → length done ≡ at → at + 2 ≤ length old + 2 * own
+      → (see-two own at (two (p .0) (p .1)) (fill old done) ≡ fill old (done ++ cond b [] (p .0 ∷ p .1 ∷ []))) × (past-two own at ≡ length (done ++ cond b [] (p .0 ∷ p .1 ∷ [])))
+  unfolding see-two past-two put-two
+  see-by true own at e l r = (
+    ap (λ (k : ℕ). see-two k at (two (p .0) (p .1)) (fill old done)) e ∙ ap (fill old) (sym (append-nil done)),
+    ap (λ (k : ℕ). past-two k at) e ∙ sym l ∙ ap length (sym (append-nil done)),
+  )
+  see-by false own at e l r = (
+    ap (λ (k : ℕ). see-two k at (two (p .0) (p .1)) (fill old done)) e ∙ fill-two old done at (p .0) (p .1) l (omega arith),
+    ap (λ (k : ℕ). past-two k at) e ∙ (let z = length-append done (p .0 ∷ p .1 ∷ []) in omega arith),
+  )
+
+  pub see-is : (s t : Site) (own at : ℕ) → own ≡ cond (is s t) 1 0 → length done ≡ at → at + 2 ≤ length old + 2 * own
+      → (see-two own at (two (p .0) (p .1)) (fill old done) ≡ fill old (done ++ got s t p)) × (past-two own at ≡ length (done ++ got s t p))
+  unfolding got
+  see-is s t own at e l r = see-by (is s t) own at e l r
+
+-- ---- the states
+module _ (s : Site) (C : Circuit) (x : ℕ → ℕ) (tapes : List ℕ) (o : Trio (List ℕ)) (old : List ℕ) where
+  abbrev T : Draws
+  T = read C tapes
+
+  abbrev ins : ℕ → St
+  ins i = ins-seen s C x T o old i
+
+  abbrev state : ℕ → St
+  state g = state-seen s C x T o old g
+
+  abbrev dealt-at : ℕ → Deal
+  dealt-at i = deal bits (x i) (T .in1 i) (T .in2 i)
+
+  abbrev had : ℕ → List ℕ
+  had i = ins-got bits s C x T i
+
+  -- one input
+  pub in-step : (n : ℕ) → Cut n o → (i owner own : ℕ) → i < C .ins → C .owner i ≡ site-of owner → own ≡ cond (is s (C .owner i)) 1 0 → i < n
+      → length (had i) + 2 ≤ length old + 2 * own → input-seen s tapes n i (x i) owner own (ins i) ≡ ins (suc i)
+  unfolding input-seen ins-seen ins-after ins-got own-place in-places
+  in-step n c i owner own h q e hn r =
+      let ws : List Wire = ins-after bits C x T no-errors i in
+      let D : Deal = dealt-at i in
+      let t : Site = C .owner i in
+      let K : deal-at bits tapes (own-place owner (in-place C i)) (x i) ≡ sent-of D = deal-is C x tapes [] o [] i owner h q in
+      let A : put-held n i (in-pairs owner (sent-of D) (sent-of D)) (stored o ws) ≡ stored o (ws ++ (in-wire bits none t D ∷ []))
+      = ap (λ (m : Four). put-held n i (in-pairs owner (sent-of D) m) (stored o ws)) (sym (on-none (sent-of D)))
+      ∙ in-link bits none D n o c ws i (ins-many bits C x T no-errors i) hn owner ∙ ap (λ (z : Site). stored o (ws ++ (in-wire bits none z D ∷ []))) (sym q) in
+      let B : pair-of-site s (in-pairs owner (sent-of D) (sent-of D)) ≡ two (mine s (dealt t D) .0) (mine s (dealt t D) .1)
+      = ap (pair-of-site s) (pairs-are D owner ∙ ap (λ (z : Site). held-of (hold (dealt z D))) (sym q)) ∙ mine-of D s t in
+      let seen = see-is old (had i) (mine s (dealt t D)) s t own (length (had i)) e refl r in
+      let here : Pos = with-at (in-place C i) (length (had i)) in
+      let P : with-at (in-pos owner here) (past-two own (length (had i))) ≡ with-at (in-place C (suc i)) (length (had i ++ got s t (mine s (dealt t D))))
+      = ap (λ (z : Pos). with-at z (past-two own (length (had i)))) (in-pos-is owner here ∙ ap (one-more here) (sym q)) ∙ (λ j. with-at (in-place-suc C i j) (seen .1 j)) in
+      (λ j. st (put-held n i (in-pairs owner (K j) (K j)) (stored o ws)) (see-two own (length (had i)) (pair-of-site s (in-pairs owner (K j) (K j))) (fill old (had i)))
+      (with-at (in-pos owner here) (past-two own (length (had i)))))
+      ∙ st-eq A (ap (λ (z : Two). see-two own (length (had i)) z (fill old (had i))) B ∙ seen .0) P

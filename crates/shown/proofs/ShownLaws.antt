@@ -1,0 +1,131 @@
+-- What the proofs of the functions that write a view's parts cite.
+--     own-yes, own-no, own-turn, own-room, own-end    own inputs
+--     copy-none, copy-turn, copy-end     own tape
+--     copies-law, bit-law     an opening, from what each stage gives
+--     copies-none, copies-turn, opened-none, opened-turn    the two passes over the outputs
+-- Assumes nothing.
+use mathlib.Core.Path.{_≡_, refl, sym, ap, _∙_}
+use mathlib.Core.Bool.{Bool, true, false, cond}
+use mathlib.Core.List.{List, [], _∷_, _++_, append-nil}
+use Prim.Native.Nat.{ℕ, zero, suc, _+_, _*_, _<_, _≤_}
+use native.Mathlib.Omega.{arith}
+use native.Mathlib.Numerals.{add-one}
+use native.Mathlib.Nat.{le-antisymm}
+use lib.ListN.{length, getD, set, take}
+use lib.Seq.{take-suc, take-all, length-take-le}
+use Rattle.sharing.specs.Ops.{bits}
+use Rattle.sharing.specs.Sites.{Site, is, if-own}
+use Rattle.sharing.specs.Circuit.{Circuit, owned, all-owned}
+use Rattle.sharing.specs.Store.{fill}
+use Rattle.sharing.specs.View.{own-ins}
+use Rattle.sharing.proofs.StoreLaws.{fill-one, fill-all}
+use Rattle.sharing.proofs.ViewLaws.{own-many}
+use Rattle.scope.specs.File.{circuit}
+use Rattle.scope.specs.Calls.{at-wire}
+use Rattle.header.specs.declared.Counts.{Counts}
+use Rattle.header.specs.Mirror.{Opened}
+use Rattle.steps.specs.Mirror.{held-at}
+use Rattle.site.specs.declared.Two.{Two}
+use Rattle.site.specs.declared.Held.{Held}
+use Rattle.engine.proofs.EngineLaws.{none-yet, turn, owned-room}
+use Rattle.seen.specs.Mirror.{pair-of-site, put-two}
+use Rattle.seen.proofs.InsLaws.{one-or-none}
+use Rattle.shown.specs.Mirror.{copies-of-site, opened-bit, put-own, copies-on, copies-all, opened-on, opened-all}
+
+-- ---- own inputs
+pub own-no : (own q p v : ℕ) (l : List ℕ) → own ≡ q → own ≡ 0 → (l ≡ put-own q p v l) × (p ≡ p + q)
+unfolding put-own
+own-no own q p v l e z = (ap (λ (k : ℕ). put-own k p v l) (sym z ∙ e), omega arith)
+
+pub own-yes : (own q p v : ℕ) (l : List ℕ) → own ≡ q → own ≤ 1 → (own ≡ 0 → ⊥) → (set l p v ≡ put-own q p v l) × (p + 1 ≡ p + q)
+unfolding put-own
+own-yes zero q p v l e h n = absurd (n refl)
+own-yes (suc k) q p v l e h n = (ap (λ (m : ℕ). put-own m p v l) e, omega arith)
+
+own-by : (b : Bool) (old done : List ℕ) (p v : ℕ) → length done ≡ p → p + cond b 1 0 ≤ length old
+    → put-own (cond b 1 0) p v (fill old done) ≡ fill old (done ++ cond b (v ∷ []) [])
+unfolding put-own
+own-by true old done p v e h = fill-one old done p v e (omega arith)
+own-by false old done p v e h = ap (fill old) (sym (append-nil done))
+
+owned-few : (f : ℕ → Site) (s : Site) (n : ℕ) → owned f s n ≤ n
+unfolding owned
+owned-few f s zero = omega arith
+owned-few f s (suc n) = let m = owned-few f s n in let d = one-or-none (is s (f n)) in omega arith
+
+module _ (f xs old : List ℕ) (s : Site) (c : Counts) (op : Opened f c) (lo : length old ≡ all-owned (circuit f) s) where
+  abbrev C : Circuit
+  C = circuit f
+
+  abbrev own : ℕ → ℕ
+  own k = cond (is s (C .owner k)) 1 0
+
+  pub own-room : (k p r : ℕ) → k < c .inputs → p ≡ owned (C .owner) s k → r ≡ length old → c .inputs ≤ 1024 → (p + own k ≤ r) × (p ≤ 65536)
+  own-room k p r h e q few =
+      let i = op .ins-are in let a = owned-room (C .owner) s k (C .ins) (omega arith) in let b = owned-few (C .owner) s k in
+      (omega arith, omega arith)
+
+  pub own-turn : (k p p′ : ℕ) (l l′ : List ℕ) → k < c .inputs → l ≡ fill old (own-ins s C (at-wire xs) k) → p ≡ owned (C .owner) s k
+      → l′ ≡ put-own (own k) p (getD xs k 0) l → p′ ≡ p + own k
+      → (l′ ≡ fill old (own-ins s C (at-wire xs) (k + 1))) × (p′ ≡ owned (C .owner) s (k + 1))
+  unfolding own-ins owned if-own
+  own-turn k p p′ l l′ h el ep q r =
+      let i = op .ins-are in let a = owned-room (C .owner) s k (C .ins) (omega arith) in (
+        q ∙ ap (put-own (own k) p (getD xs k 0)) el ∙ own-by (is s (C .owner k)) old (own-ins s C (at-wire xs) k) p (getD xs k 0) (own-many s C (at-wire xs) k ∙ sym ep) (omega arith)
+            ∙ ap (λ (m : ℕ). fill old (own-ins s C (at-wire xs) m)) (sym (add-one k)),
+        r ∙ ap (λ (m : ℕ). m + own k) ep ∙ ap (owned (C .owner) s) (sym (add-one k)),
+      )
+
+  pub own-end : (k : ℕ) (l : List ℕ) → l ≡ fill old (own-ins s C (at-wire xs) k) → k ≤ c .inputs → c .inputs ≤ k → l ≡ own-ins s C (at-wire xs) (C .ins)
+  own-end k l e a b =
+      e ∙ ap (λ (m : ℕ). fill old (own-ins s C (at-wire xs) m)) (le-antisymm a b ∙ op .ins-are)
+      ∙ fill-all old (own-ins s C (at-wire xs) (C .ins)) (own-many s C (at-wire xs) (C .ins) ∙ sym lo)
+
+pub own-none : (s : Site) (C : Circuit) (x : ℕ → ℕ) (old : List ℕ) → (old ≡ fill old (own-ins s C x 0)) × (0 ≡ owned (C .owner) s 0)
+unfolding own-ins owned fill
+own-none s C x old = (refl, refl)
+
+-- ---- own tape
+module _ (src old : List ℕ) (e : length old ≡ length src) where
+  pub copy-none : old ≡ fill old (take 0 src)
+  unfolding fill
+  copy-none = refl
+
+  pub copy-turn : (k : ℕ) (l : List ℕ) → l ≡ fill old (take k src) → k < length src → set l k (getD src k 0) ≡ fill old (take (k + 1) src)
+  copy-turn k l q h =
+      ap (λ (z : List ℕ). set z k (getD src k 0)) q ∙ fill-one old (take k src) k (getD src k 0) (length-take-le k src (omega arith)) (omega arith)
+      ∙ ap (fill old) (sym (take-suc src k 0 h)) ∙ ap (λ (m : ℕ). fill old (take m src)) (sym (add-one k))
+
+  pub copy-end : (k : ℕ) (l : List ℕ) → l ≡ fill old (take k src) → length src ≤ k → l ≡ src
+  copy-end k l q h = q ∙ ap (fill old) (take-all k src h) ∙ fill-all old src (sym e)
+
+-- ---- an opening
+pub copies-law : (s : Site) (file store : List ℕ) (n at k : ℕ) (h : Held) (p : Two) (l l′ : List ℕ) → h ≡ held-at n (circuit file .out k) store → p ≡ copies-of-site s h
+    → l′ ≡ put-two (at + 2 * k) p l → l′ ≡ copies-on s file store n at k l
+unfolding copies-on
+copies-law s file store n at k h p l l′ a b d = d ∙ ap (λ (z : Two). put-two (at + 2 * k) z l) (b ∙ ap (copies-of-site s) a)
+
+pub bit-law : (s : Site) (file store : List ℕ) (n k : ℕ) (h : Held) (p g : Two) (l : List ℕ) → h ≡ held-at n (circuit file .out k) store → p ≡ pair-of-site s h
+    → g ≡ copies-of-site s h → set l k (bits .add (bits .add (p .x) (p .y)) (g .x)) ≡ opened-on s file store n k l
+unfolding opened-on opened-bit
+bit-law s file store n k h p g l a b d =
+    let P = b ∙ ap (pair-of-site s) a in let G = d ∙ ap (copies-of-site s) a in
+    λ i. set l k (bits .add (bits .add (P i .x) (P i .y)) (G i .x))
+
+module _ (s : Site) (file store : List ℕ) (n at : ℕ) where
+  pub copies-none : (l : List ℕ) → l ≡ copies-all s file store n at l 0
+  unfolding copies-all
+  copies-none l = none-yet (copies-on s file store n at) l
+
+  pub copies-turn : (l : List ℕ) (k : ℕ) (x y : List ℕ) → x ≡ copies-all s file store n at l k → y ≡ copies-on s file store n at k x → y ≡ copies-all s file store n at l (k + 1)
+  unfolding copies-all
+  copies-turn l k x y e q = turn (copies-on s file store n at) l k x y e q
+
+module _ (s : Site) (file store : List ℕ) (n : ℕ) where
+  pub opened-none : (l : List ℕ) → l ≡ opened-all s file store n l 0
+  unfolding opened-all
+  opened-none l = none-yet (opened-on s file store n) l
+
+  pub opened-turn : (l : List ℕ) (k : ℕ) (x y : List ℕ) → x ≡ opened-all s file store n l k → y ≡ opened-on s file store n k x → y ≡ opened-all s file store n l (k + 1)
+  unfolding opened-all
+  opened-turn l k x y e q = turn (opened-on s file store n) l k x y e q

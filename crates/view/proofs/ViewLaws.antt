@@ -1,0 +1,235 @@
+-- What the proofs of a view cite.
+--     slices-stop, fault-11, fault-10, no-fault    7, 8, 11 and 10, as the code goes through them
+--     fill-part               a part of a buffer that is filled from the front is back
+--     tape-cut                the site's tape, in the one slice
+--     laid, in-order          the places of the four parts
+--     view-whole              the four parts together are the document's view
+-- Assumes nothing.
+use mathlib.Core.Path.{_≡_, refl, sym, ap, ap₂, _∙_}
+use mathlib.Core.Bool.{Bool, true, false, not, cond, true≢false}
+use mathlib.Core.List.{List, [], _∷_, _++_, append-assoc}
+use Prim.Native.Nat.{ℕ, _+_, _*_, _-_, _<_, _≤_}
+use native.Mathlib.Omega.{arith}
+use lib.ListN.{length, getD, take, drop, length-append, length-drop}
+use lib.Seq.{take-at, drop-at, drop-drop, take-all}
+use lib.Dec.{eqb}
+use borrow.Author.Tests.{ne-eqb}
+use Rattle.sharing.specs.Ops.{bits}
+use Rattle.sharing.specs.Sites.{Site, s1, s2, s3, of}
+use Rattle.sharing.specs.Circuit.{Circuit, ands, all-ands, owned, all-owned}
+use Rattle.sharing.specs.First.{first}
+use Rattle.sharing.specs.Tapes.{tape-length, cut, read}
+use Rattle.sharing.specs.Store.{fill}
+use Rattle.sharing.specs.View.{own-ins, view-from}
+use Rattle.sharing.proofs.BitLaws.{bit-group}
+use Rattle.sharing.proofs.Seen.{seen-view}
+use Rattle.sharing.proofs.StoreLaws.{fill-all}
+use Rattle.sharing.proofs.TapeLaws.{tapes-sum, tapes-length, read-tape}
+use Rattle.sharing.proofs.ViewLaws.{view-is}
+use Rattle.scope.specs.File.{site-of, circuit}
+use Rattle.scope.specs.Checks.{Given, Row, one-to-three, tested, at-places, row, refusal-table, fault, accepted, refuses, verdict}
+use Rattle.scope.specs.Calls.{at-wire, view-wants}
+use Rattle.scope.proofs.Refusals.{row-refuses, row-passes}
+use Rattle.scope.proofs.RunCall.{bit-draws}
+use Rattle.header.specs.declared.Counts.{Counts}
+use Rattle.header.specs.Mirror.{Opened}
+use Rattle.faults.specs.Mirror.{wrong-size}
+use Rattle.engine.specs.declared.Pos.{Pos}
+use Rattle.link.specs.Loops.{base, in-places, in-place, site-place}
+use Rattle.given.specs.declared.Fault.{Fault}
+use Rattle.given.specs.Mirror.{slices, found}
+use Rattle.given.proofs.GivenLaws.{nothing, ands-are, found-refuses, found-passes}
+use Rattle.shown.specs.Mirror.{all-seen, totals-seen}
+use Rattle.view.specs.Mirror.{view-given, Ready, Laid}
+
+-- ---- 7, 8, 11, 10
+-- a test that was asked the other way round
+pub told-no : (a b : Bool) → a ≡ b → not a ≡ true → b ≡ false
+told-no true b e h = absurd (true≢false (sym h))
+told-no false b e h = sym e
+
+pub told-yes : (a b : Bool) → a ≡ b → not a ≡ false → b ≡ true
+told-yes true b e h = sym e
+told-yes false b e h = absurd (true≢false h)
+
+module _ (f x t : List ℕ) (s v st : ℕ) (c : Counts) (a : ℕ) (op : Opened f c) (ea : a ≡ ands (circuit f .gate) (c .gates)) where
+  abbrev g : Given
+  g = view-given f x t s v st
+
+  -- the row of the site
+  abbrev site-row : Row
+  site-row = at-places 1 ((0, not (one-to-three s)) ∷ [])
+
+  row-11 : row g 11 ≡ site-row
+  unfolding row refusal-table
+  row-11 = refl
+
+  site-bad : one-to-three s ≡ false → 0 ≡ fault site-row
+  unfolding fault first tested
+  site-bad e = rw e
+
+  site-good : one-to-three s ≡ true → 1 ≡ fault site-row
+  unfolding fault first tested
+  site-good e = rw e
+
+  -- the row of buffers
+  module _ (own : ℕ) (eo : own ≡ owned (circuit f .owner) (site-of s) (c .inputs)) where
+    abbrev sizes : List ℕ
+    sizes = v ∷ st ∷ []
+
+    abbrev wants : List ℕ
+    wants = (2 * c .inputs + own + 6 * a + 3 * c .outputs) ∷ 6 * (c .inputs + c .gates) ∷ []
+
+    own-is : own ≡ all-owned (circuit f) (site-of s)
+    own-is = eo ∙ ap (owned (circuit f .owner) (site-of s)) (op .ins-are)
+
+    wants-are : wants ≡ view-wants (circuit f) s
+    wants-are = λ i. (2 * op .ins-are i + own-is i + 6 * ands-are f x t c a op ea i + 3 * op .outs-are i) ∷ 6 * (op .ins-are i + op .gates-are i) ∷ []
+
+    abbrev row-of : List ℕ → Row
+    row-of w = record { span = length w; bad = λ p. not (eqb (getD sizes p 0) (getD w p 0)) }
+
+    row-10 : row g 10 ≡ row-of wants
+    unfolding row refusal-table
+    row-10 = λ i. row-of (sym wants-are i)
+
+    abbrev Sized : ℕ → Type 0
+    Sized b = b ≡ first (wrong-size sizes wants) 2
+
+    sized : (b : ℕ) → Sized b → b ≡ fault (row-of wants)
+    unfolding fault wrong-size
+    sized b e = e
+
+  module _ (u : Fault) (e78 : found u ≡ verdict (slices f x t) (7 ∷ 8 ∷ [])) where
+    front : found u ≡ verdict g (7 ∷ 8 ∷ [])
+    unfolding verdict row refusal-table
+    front = e78
+
+    pub slices-stop : (u .number ≡ 0 → ⊥) → found u ≡ verdict g (7 ∷ 8 ∷ 11 ∷ 10 ∷ [])
+    slices-stop n = ap (λ (b : Bool). cond b accepted (refuses (u .number) (u .place))) (ne-eqb (u .number) 0 n) ∙ found-refuses g (7 ∷ 8 ∷ []) (11 ∷ 10 ∷ []) u front n
+
+    module _ (z : u .number ≡ 0) where
+      past-8 : verdict g (11 ∷ 10 ∷ []) ≡ verdict g (7 ∷ 8 ∷ 11 ∷ 10 ∷ [])
+      past-8 = found-passes g (7 ∷ 8 ∷ []) (11 ∷ 10 ∷ []) u front z
+
+      pub fault-11 : one-to-three s ≡ false → refuses 11 0 ≡ verdict g (7 ∷ 8 ∷ 11 ∷ 10 ∷ [])
+      fault-11 e = row-refuses g 11 (10 ∷ []) _ 0 row-11 (site-bad e) (omega arith) ∙ past-8
+
+      module _ (k : one-to-three s ≡ true) (own : ℕ) (eo : own ≡ owned (circuit f .owner) (site-of s) (c .inputs)) where
+        past-11 : verdict g (10 ∷ []) ≡ verdict g (7 ∷ 8 ∷ 11 ∷ 10 ∷ [])
+        past-11 = row-passes g 11 (10 ∷ []) _ 1 row-11 (site-good k) (omega arith) ∙ past-8
+
+        pub fault-10 : (b : ℕ) → Sized own eo b → b < 2 → refuses 10 b ≡ verdict g (7 ∷ 8 ∷ 11 ∷ 10 ∷ [])
+        fault-10 b e h = row-refuses g 10 [] _ b (row-10 own eo) (sized own eo b e) h ∙ past-11
+
+        pub no-fault : (b : ℕ) → Sized own eo b → 2 ≤ b → accepted ≡ verdict g (7 ∷ 8 ∷ 11 ∷ 10 ∷ [])
+        no-fault b e h = nothing g ∙ row-passes g 10 [] _ b (row-10 own eo) (sized own eo b e) h ∙ past-11
+
+-- ---- the four parts
+-- a part is back, behind what was filled so far
+pub fill-part : (old done ys l : List ℕ) (a e : ℕ) → l ≡ fill old done → length done ≡ a → length ys ≡ e - a
+    → take a l ++ (ys ++ drop (e - a) (drop a l)) ≡ fill old (done ++ ys)
+unfolding fill
+fill-part old done ys l a e q ld ly =
+    let n = length-append done ys in
+    ap (λ (z : List ℕ). take a z ++ (ys ++ drop (e - a) (drop a z))) q
+    ∙ ap₂ (λ (u w : List ℕ). u ++ (ys ++ drop (e - a) w)) (take-at done (drop (length done) old) a ld) (drop-at done (drop (length done) old) a ld)
+    ∙ ap (λ (w : List ℕ). done ++ (ys ++ w)) (drop-drop (e - a) (length done) old ∙ ap (λ (k : ℕ). drop k old) (let m : length done + (e - a) ≡ length (done ++ ys) = omega arith in m))
+    ∙ sym (append-assoc done ys (drop (length (done ++ ys)) old))
+
+-- the site's tape
+pub by-base : (C : Circuit) (tapes : List ℕ) (s : Site) → length tapes ≡ tapes-sum C → take (tape-length C s) (drop (base C s) tapes) ≡ of (cut C tapes) s
+unfolding base
+by-base C tapes s1 l = refl
+by-base C tapes s2 l = refl
+by-base C tapes s3 l =
+    let k = length-drop (tape-length C s1 + tape-length C s2) tapes in
+    take-all (tape-length C s3) (drop (tape-length C s1 + tape-length C s2) tapes) (omega arith)
+
+pub tape-cut : (C : Circuit) (tapes : List ℕ) (s : Site) (t m : ℕ) → length tapes ≡ tapes-sum C → t ≡ base C s → m ≡ tape-length C s
+    → take (t + m - t) (drop t tapes) ≡ of (cut C tapes) s
+tape-cut C tapes s t m l e q =
+    let k : t + m - t ≡ m = omega arith in
+    (λ i. take (k i) (drop t tapes)) ∙ (λ i. take (q i) (drop (e i) tapes)) ∙ by-base C tapes s l
+
+-- where the site's tape begins and ends
+pub place-base : (C : Circuit) (pos : Pos) (s : Site) (t : ℕ) → pos ≡ in-place C 0 → t ≡ site-place pos s → t ≡ base C s
+unfolding in-places owned
+place-base C pos s t e q = q ∙ ap (λ (p : Pos). site-place p s) e ∙ at s
+  where
+    at : (s : Site) → site-place (in-place C 0) s ≡ base C s
+    at s1 = omega arith
+    at s2 = omega arith
+    at s3 = omega arith
+
+base-end : (C : Circuit) (s : Site) → base C s + tape-length C s ≤ tapes-sum C
+unfolding base
+base-end C s1 = omega arith
+base-end C s2 = omega arith
+base-end C s3 = omega arith
+
+-- the places of the four parts, in a view of length v: own inputs up to own, own tape up to d, delivered bits up to e
+module _ (f : List ℕ) (c : Counts) (site x t v st : ℕ) (r : Ready f c site x t v st) (a : ℕ) (ea : a ≡ ands (circuit f .gate) (c .gates))
+    (own : ℕ) (eo : own ≡ owned (circuit f .owner) (site-of site) (c .inputs)) (ho : own ≤ c .inputs) where
+  abbrev C : Circuit
+  C = circuit f
+
+  abbrev S : Site
+  S = site-of site
+
+  pub own-all : own ≡ all-owned C S
+  own-all = eo ∙ ap (owned (C .owner) S) (r .checked .opened .ins-are)
+
+  pub ands-all : a ≡ all-ands C
+  ands-all = ea ∙ ap (ands (C .gate)) (r .checked .opened .gates-are)
+
+  pub tape-all : 2 * (own + a) ≡ tape-length C S
+  unfolding tape-length
+  tape-all = λ i. 2 * (own-all i + ands-all i)
+
+  pub tapes-all : t ≡ tapes-sum C
+  tapes-all = r .lt ∙ sym (tapes-length C)
+
+  pub tape-fits : (p : ℕ) → p ≡ base C S → p + 2 * (own + a) ≤ t
+  tape-fits p e = let q = base-end C S in let m = tape-all in let l = tapes-all in omega arith
+
+  -- where they begin and end, as the code works it out
+  abbrev d : ℕ
+  d = own + 2 * (own + a)
+
+  abbrev e : ℕ
+  e = d + 2 * (c .inputs - own) + 4 * a + 2 * c .outputs
+
+  pub laid : (pos : Pos) (p : ℕ) → pos ≡ in-place C 0 → p ≡ site-place pos S → Laid f c S x t v st pos own d e p (p + 2 * (own + a))
+  laid pos p ep es =
+      let o = r .checked .opened in let i = o .ins-are in let g = o .gates-are in let u = o .outs-are in
+      let q = own-all in let w = ands-all in let l = r .lv in
+      record {
+        seeing = record { checked = r .checked; lt = r .lt; lg = omega arith; ls = r .ls };
+        lx = r .lx;
+        lt = tapes-all;
+        begins = ep;
+        owns = own-all;
+        from = place-base C pos S p ep es;
+        upto = (let k : p + 2 * (own + a) - p ≡ 2 * (own + a) = omega arith in k) ∙ tape-all;
+        tape = omega arith;
+        ends = omega arith;
+      }
+
+  pub in-order : (p : ℕ) (pos : Pos) → pos ≡ in-place C 0 → p ≡ site-place pos S → ((own ≤ d) × (d ≤ e) × (e ≤ v)) × ((p ≤ p + 2 * (own + a)) × (p + 2 * (own + a) ≤ t))
+  in-order p pos ep es =
+      let o = r .checked .opened in let i = o .ins-are in let g = o .gates-are in let u = o .outs-are in
+      let q = own-all in let w = ands-all in let l = r .lv in
+      ((omega arith, omega arith, omega arith), (omega arith, tape-fits p (place-base C pos S p ep es)))
+
+-- ---- together
+pub view-whole : (f xs tapes : List ℕ) (s : Site) (view w : List ℕ) → length tapes ≡ tapes-sum (circuit f)
+    → w ≡ fill view (own-ins s (circuit f) (at-wire xs) (circuit f .ins) ++ of (cut (circuit f) tapes) s ++ all-seen s f xs tapes ++ totals-seen s f xs tapes)
+    → length (own-ins s (circuit f) (at-wire xs) (circuit f .ins) ++ of (cut (circuit f) tapes) s ++ all-seen s f xs tapes ++ totals-seen s f xs tapes) ≡ length view
+    → w ≡ view-from bits s (circuit f) (at-wire xs) tapes
+unfolding seen-view
+view-whole f xs tapes s view w l e n =
+    let C : Circuit = circuit f in
+    e ∙ fill-all view _ n
+    ∙ ap (λ (z : List ℕ). own-ins s C (at-wire xs) (C .ins) ++ z ++ all-seen s f xs tapes ++ totals-seen s f xs tapes) (sym (read-tape C tapes l s))
+    ∙ sym (view-is bit-group s C (at-wire xs) tapes l (bit-draws (read C tapes)))

@@ -1,0 +1,160 @@
+-- What the proofs of the passes' functions cite.
+--     owned-yes, owned-no              what was asked of an owner
+--     fits-own, fits-next, fits-prev   room for an input's draws, by owner
+--     input-own, input-next, input-prev    an input of the site itself, of the next one, of the one before
+--     in-room, gate-room               what the whole pass has room for, each step has
+--     gates-none, gates-turn           one more gate
+use mathlib.Core.Path.{_≡_, refl, sym, ap, _∙_, subst}
+use mathlib.Core.Logic.{⊎-elim}
+use mathlib.Core.Bool.{Bool, true, false, cond, true≢false}
+use mathlib.Core.List.{List}
+use Prim.Native.Nat.{ℕ, zero, suc, _+_, _*_, _≤_, _<_}
+use native.Mathlib.Omega.{arith}
+use lib.ListN.{length, getD}
+use Rattle.sharing.specs.Ops.{bits}
+use Rattle.sharing.specs.Sites.{Site, s1, s2, s3, next, prev, is}
+use Rattle.sharing.specs.Circuit.{Gate, XOR, AND, OR, NOT, Circuit, dealing, ands, owned, all-owned}
+use Rattle.sharing.specs.Tapes.{tape-length}
+use Rattle.sharing.proofs.SiteLaws.{alike-two}
+use Rattle.scope.specs.File.{circuit}
+use Rattle.site.specs.Mirror.{put-at, deal-at}
+use Rattle.site.specs.declared.Four.{Four}
+use Rattle.steps.specs.Mirror.{on-part}
+use Rattle.engine.specs.Mirror.{up-to}
+use Rattle.engine.proofs.EngineLaws.{ands-room, owned-room, none-yet, turn}
+use Rattle.pairs.specs.declared.Places.{Places}
+use Rattle.pairs.specs.Mirror.{Fits, St, st, places, forward-of, put-two, and-on, gate-on}
+use Rattle.walk.specs.Mirror.{step-own, step-next, step-prev, InFits, Lengths, input-on, gates-on}
+
+module _ (r : ℕ) where
+  pub owned-yes : (a : Bool) → r ≡ cond a 1 0 → r ≡ 1 → a ≡ true
+  owned-yes true e q = refl
+  owned-yes false e q = absurd (omega arith)
+
+  pub owned-no : (a : Bool) → r ≡ cond a 1 0 → (r ≡ 1 → ⊥) → a ≡ false
+  owned-no true e q = absurd (q e)
+  owned-no false e q = refl
+
+module _ (own next prev : ℕ) (at : Places) where
+  pub fits-own : (a b : Bool) → a ≡ true → InFits a b own next prev at → at .own + 2 ≤ own
+  unfolding step-own
+  fits-own true b e h = h .one
+  fits-own false b e h = absurd (true≢false (sym e))
+
+  pub fits-next : (a b : Bool) → a ≡ false → b ≡ true → InFits a b own next prev at → at .next + 2 ≤ next
+  unfolding step-next
+  fits-next false true e q h = h .two
+  fits-next false false e q h = absurd (true≢false (sym q))
+  fits-next true b e q h = absurd (true≢false e)
+
+  pub fits-prev : (a b : Bool) → a ≡ false → b ≡ false → InFits a b own next prev at → at .prev + 2 ≤ prev
+  unfolding step-prev
+  fits-prev false false e q h = h .thr
+  fits-prev false true e q h = absurd (true≢false q)
+  fits-prev true b e q h = absurd (true≢false e)
+
+module _ (own next prev : List ℕ) (n k x y : ℕ) (room moved : List ℕ) (at : Places) (d : Four) (l : List ℕ) where
+  pub input-own : (a b : Bool) → a ≡ true → d ≡ deal-at bits own (at .own) x → l ≡ on-part (2 * n) (4 * n) (put-at k (d .d, d .a)) room
+      → st l moved (places (at .own + 2) (at .next) (at .prev)) ≡ input-on own next prev n k x y a b (st room moved at)
+  unfolding input-on deal-at
+  input-own true b e h q = cc
+  input-own false b e h q = absurd (true≢false (sym e))
+
+  pub input-next : (a b : Bool) → a ≡ false → b ≡ true → d ≡ deal-at bits next (at .next) x → l ≡ on-part (2 * n) (4 * n) (put-at k (d .c, d .d)) room
+      → (m : List ℕ) → m ≡ put-two (at .next) (bits .add (d .a) (bits .add y x)) (d .b) moved
+      → st l m (places (at .own) (at .next + 2) (at .prev)) ≡ input-on own next prev n k x y a b (st room moved at)
+  unfolding input-on deal-at
+  input-next false true e f h q m r = cc
+  input-next false false e f h q m r = absurd (true≢false (sym f))
+  input-next true b e f h q m r = absurd (true≢false e)
+
+  pub input-prev : (a b : Bool) → a ≡ false → b ≡ false → d ≡ deal-at bits prev (at .prev) x → l ≡ on-part (2 * n) (4 * n) (put-at k (d .a, d .b)) room
+      → st l moved (places (at .own) (at .next) (at .prev + 2)) ≡ input-on own next prev n k x y a b (st room moved at)
+  unfolding input-on deal-at
+  input-prev false false e f h q = cc
+  input-prev false true e f h q = absurd (true≢false f)
+  input-prev true b e f h q = absurd (true≢false e)
+
+-- whose input it is, seen from each of three sites
+next-is : (s t : Site) → cond (is (next s) t) 1 0 ≡ step-next (is s t) (is (next s) t)
+unfolding is step-next
+next-is = alike-two (λ s t. cond (is (next s) t) 1 0) (λ s t. step-next (is s t) (is (next s) t)) tt
+
+prev-is : (s t : Site) → cond (is (prev s) t) 1 0 ≡ step-prev (is s t) (is (next s) t)
+unfolding is step-prev
+prev-is = alike-two (λ s t. cond (is (prev s) t) 1 0) (λ s t. step-prev (is s t) (is (next s) t)) tt
+
+-- the places after k inputs leave room for input k
+pub in-room : (C : Circuit) (s t : Site) (a b c m k : ℕ) (at : Places) → t ≡ next s → Lengths C s a b c m → k < C .ins
+    → at ≡ places (2 * owned (C .owner) s k) (2 * owned (C .owner) (next s) k) (2 * owned (C .owner) (prev s) k)
+    → InFits (is s (C .owner k)) (is t (C .owner k)) a b c at
+unfolding tape-length step-own
+in-room C s t a b c m k at e h l q =
+    subst (λ (z : Site). InFits (is s (C .owner k)) (is z (C .owner k)) a b c at) (sym e)
+    (let w = C .owner k in
+    let o1 = owned-room (C .owner) s k (C .ins) l in
+    let o2 = owned-room (C .owner) (next s) k (C .ins) l in
+    let o3 = owned-room (C .owner) (prev s) k (C .ins) l in
+    let n2 = next-is s w in let n3 = prev-is s w in
+    let p1 : at .own ≡ 2 * owned (C .owner) s k = ap (λ (z : Places). z .own) q in
+    let p2 : at .next ≡ 2 * owned (C .owner) (next s) k = ap (λ (z : Places). z .next) q in
+    let p3 : at .prev ≡ 2 * owned (C .owner) (prev s) k = ap (λ (z : Places). z .prev) q in
+    let i1 = h .own-is in let i2 = h .next-is in let i3 = h .prev-is in
+    record { one = omega arith; two = omega arith; thr = omega arith; few-own = h .few-own; few-next = h .few-next; few-prev = h .few-prev })
+
+-- ---- the places after gates
+unfoldable pub onward : ℕ → Places → Places
+onward m p = places (p .own + 2 * m) (p .next + 2 * m) (p .prev + 2 * m)
+
+places-eq : {a b c a′ b′ c′ : ℕ} → a ≡ a′ → b ≡ b′ → c ≡ c′ → places a b c ≡ places a′ b′ c′
+places-eq p q r = λ i. places (p i) (q i) (r i)
+
+stays : (p : Places) → p ≡ onward 0 p
+unfolding onward
+stays p = places-eq (omega arith) (omega arith) (omega arith)
+
+forwards : (p : Places) → forward-of p ≡ onward 1 p
+unfolding onward forward-of
+forwards p = places-eq (omega arith) (omega arith) (omega arith)
+
+onward-add : (a b : ℕ) (p : Places) → onward b (onward a p) ≡ onward (a + b) p
+unfolding onward
+onward-add a b p = places-eq (omega arith) (omega arith) (omega arith)
+
+module _ (s : Site) (own nx pv : List ℕ) where
+  gate-moves : (n w : ℕ) (G : Gate) (x : St) → gate-on s own nx pv n w G x .at ≡ onward (dealing G) (x .at)
+  unfolding gate-on and-on dealing
+  gate-moves n w (XOR a b) x = stays (x .at)
+  gate-moves n w (NOT a) x = stays (x .at)
+  gate-moves n w (AND a b) x = forwards (x .at)
+  gate-moves n w (OR a b) x = forwards (x .at)
+
+  module _ (file : List ℕ) (i n : ℕ) (x : St) where
+    gates-at : (k : ℕ) → gates-on file s own nx pv i n x k .at ≡ onward (ands (circuit file .gate) k) (x .at)
+    unfolding gates-on up-to ands
+    gates-at zero = stays (x .at)
+    gates-at (suc k) =
+        gate-moves n (i + k) (circuit file .gate k) (gates-on file s own nx pv i n x k)
+        ∙ ap (onward (dealing (circuit file .gate k))) (gates-at k)
+        ∙ onward-add (ands (circuit file .gate) k) (dealing (circuit file .gate k)) (x .at)
+
+    pub gate-room : (y : St) (k g : ℕ) → k < g → Fits (ands (circuit file .gate) g) (length own) (length nx) (length pv) (x .at)
+        → y ≡ gates-on file s own nx pv i n x k → Fits (dealing (circuit file .gate k)) (length own) (length nx) (length pv) (y .at)
+    unfolding onward
+    gate-room y k g h o q =
+        let m : y .at ≡ onward (ands (circuit file .gate) k) (x .at) = ap (λ (z : St). z .at) q ∙ gates-at k in
+        let a = ands-room (circuit file .gate) k g h in
+        let e1 : y .at .own ≡ x .at .own + 2 * ands (circuit file .gate) k = ap (λ (z : Places). z .own) m in
+        let e2 : y .at .next ≡ x .at .next + 2 * ands (circuit file .gate) k = ap (λ (z : Places). z .next) m in
+        let e3 : y .at .prev ≡ x .at .prev + 2 * ands (circuit file .gate) k = ap (λ (z : Places). z .prev) m in
+        let o1 = o .one in let o2 = o .two in let o3 = o .thr in
+        record { one = omega arith; two = omega arith; thr = omega arith; few-own = o .few-own; few-next = o .few-next; few-prev = o .few-prev }
+
+    pub gates-none : x ≡ gates-on file s own nx pv i n x 0
+    unfolding gates-on
+    gates-none = none-yet (λ g. gate-on s own nx pv n (i + g) (circuit file .gate g)) x
+
+    pub gates-turn : (y z : St) (k : ℕ) → y ≡ gates-on file s own nx pv i n x k → z ≡ gate-on s own nx pv n (i + k) (circuit file .gate k) y
+        → z ≡ gates-on file s own nx pv i n x (k + 1)
+    unfolding gates-on
+    gates-turn y z k e q = turn (λ g. gate-on s own nx pv n (i + g) (circuit file .gate g)) x k y z e q

@@ -1,0 +1,49 @@
+use borrow.Author.Needs.{needs}
+use mathlib.Core.Path.{_≡_, refl, _∙_}
+use Prim.Native.Nat.{_-_, _+_, _≤_}
+use lib.ListN.{length}
+use Rattle.scope.specs.File.{site-of}
+use Rattle.engine.proofs.EngineLaws.{at-end}
+use Rattle.pairs.specs.Mirror.{st}
+use Rattle.walk.specs.Mirror.{gates-on}
+use Rattle.walk.proofs.StepLaws.{gate-room, gates-none, gates-turn}
+use Rattle.walk.proofs.gates_pass.Statement.{statement}
+use Rattle.walk.proofs.gates_pass.Tie as tie
+
+abbrev Inv-loop : tie.InvT-loop
+Inv-loop file c site own next prev room₀ moved₀ n at₀ k₀ room moved at k =
+    (k ≤ n) × (st room moved at ≡ gates-on file (site-of site) own next prev (c .inputs) (c .inputs + c .gates) (st room₀ moved₀ at₀) k) × (length room ≡ length room₀) × (length moved ≡ length moved₀)
+
+abbrev μ-loop : tie.MeasureT-loop
+μ-loop file c site own next prev room₀ moved₀ n at₀ k₀ room moved at k = n - k
+
+loop-holds : tie.Need-loop-holds Inv-loop μ-loop
+loop-holds c = (search needs, gates-none _ _ _ _ _ _ _ _, refl, refl)
+
+gate-step-requires : tie.Need-gate-step-requires Inv-loop μ-loop
+gate-step-requires c κs =
+    let p = c .before .before .before .before .before .before .before .before .before .before .pre in let l = c .before .before .before .loop .inv in let t = c .before .before .loop-test .taken in
+    ((p .0, t), (l .2 ∙ p .1 .0 .0, (gate-room _ _ _ _ _ _ _ _ (st _ _ _) _ _ t (p .1 .1) (l .1), l .3 ∙ p .1 .0 .1)))
+
+loop-again : tie.Need-loop-again Inv-loop μ-loop
+loop-again c =
+    let l = c .before .before .before .before .before .before .before .before .loop .inv in let r = c .before .before .before .before .gate-step in
+    (search needs, gates-turn _ _ _ _ _ _ _ _ _ _ _ (l .1) (r .ensures), r .kept .1 .1 .1 .1 .1 .1 .0 ∙ l .2, r .kept .1 .1 .1 .1 .1 .1 .1 .0 ∙ l .3)
+
+returns : tie.Need-returns Inv-loop μ-loop
+returns c = let l = c .before .loop .inv in at-end (gates-on _ _ _ _ _ _ _ _) _ _ _ (l .1) (l .0) (c .loop-test .left)
+
+pub gates-pass-spec : {M : Type 1} → statement M
+gates-pass-spec =
+    tie.close
+    (tie.spec
+    Inv-loop
+    μ-loop
+    loop-holds
+    gate-step-requires
+    (λ c. search needs)
+    (λ c. search needs)
+    loop-again
+    (λ c. search needs)
+    (λ c. search needs)
+    returns)

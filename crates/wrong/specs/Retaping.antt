@@ -1,0 +1,31 @@
+-- Wrong re-tapings, each a definition; proofs/RetapingShutOut.antt shows that it does not meet the promise.
+--     TapeEngine             a re-taping: from what it is given to its answer, the new tapes and the work room
+--     TapeMeets              the promise of `retape` (crates/retape/src/lib.rt), its one `ensures`;  TapeMeetsOn: an engine meets it on what it is given
+--     hands-old-tapes-back   whatever it lays down in the work room
+--     refuses-freely n p     with this number and place
+use mathlib.Core.Path.{_≡_}
+use mathlib.Core.List.{List}
+use Prim.Native.Nat.{ℕ}
+use Rattle.scope.specs.Calls.{Retape, does}
+use Rattle.retape.specs.declared.Retaped.{Retaped}
+use Rattle.retape.specs.declared.Retaped.the-variants.{Good, Refused}
+use Rattle.retape.specs.Answers.{retape-after}
+
+abbrev pub TapeEngine : Type 0
+TapeEngine = (file inputs tapes second : List ℕ) → ℕ → (fresh room : List ℕ) → Retaped × List ℕ × List ℕ
+
+abbrev pub TapeMeets : (file inputs tapes second : List ℕ) → ℕ → (fresh0 room0 : List ℕ) → Retaped → (fresh room : List ℕ) → Type 0
+TapeMeets file inputs tapes second site fresh0 room0 r fresh room = retape-after r fresh room ≡ does (Retape file inputs tapes second site fresh0 room0)
+
+abbrev pub TapeMeetsOn : TapeEngine → (file inputs tapes second : List ℕ) → ℕ → (fresh room : List ℕ) → Type 0
+TapeMeetsOn engine file inputs tapes second site fresh room =
+    let z = engine file inputs tapes second site fresh room in
+    TapeMeets file inputs tapes second site fresh room (z .0) (z .1) (z .2)
+
+-- 01: "Demand 3 shuts out handing the old tapes back,"
+abbrev pub hands-old-tapes-back : (List ℕ → List ℕ) → TapeEngine
+hands-old-tapes-back lays file inputs tapes second site fresh room = (Good, tapes, lays room)
+
+-- "or refusing freely."
+abbrev pub refuses-freely : ℕ → ℕ → TapeEngine
+refuses-freely n p file inputs tapes second site fresh room = (Refused n p, fresh, room)
