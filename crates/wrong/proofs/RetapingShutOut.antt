@@ -1,19 +1,29 @@
--- The wrong re-tapings of specs/Retaping.antt do not meet the promise.
+-- The wrong re-tapings and the wrong view of specs/Retaping.antt do not meet the promise.
 --     handing-back-fails-on-K8      whatever is laid down in the work room
+--     K8-only                       no other tapes meet it on K8
 --     refusing-freely-fails         at every re-taping that is accepted;  ..-on-K8: K8 is one
+--     ten-before-eleven-fails       a view that looks at 10 before 11, at site 4 with empty buffers
 -- Assumes nothing.
 use mathlib.Core.Path.{_≡_, refl, sym, ap, _∙_}
 use mathlib.Core.List.{List, [], _∷_}
 use Prim.Native.Nat.{ℕ}
 use native.Mathlib.Omega.{arith}
 use lib.ListN.{getD}
-use Rattle.scope.specs.Answer.{After}
-use Rattle.scope.specs.Calls.{Retape, does, Accepts}
+use Rattle.sharing.specs.Sites.{is}
+use Rattle.sharing.specs.Circuit.{dealing, ands, owned}
+use Rattle.sharing.specs.First.{first}
+use Rattle.scope.specs.File.{le16, le32, size, owner-at, kind-at, first-at, second-at, output-at, site-of, gate-of}
+use Rattle.scope.specs.Answer.{After, refused, number-of}
+use Rattle.scope.specs.Checks.{tested, row-owner, good-gate, row-gate, row-output, refusal-table, row, fault, verdict}
+use Rattle.scope.specs.Refusal.{stands-in, those-of}
+use Rattle.scope.specs.Calls.{View, Retape, given-of, concerns, order, settle, does, Accepts}
 use Rattle.scope.proofs.CallLaws.{good-accepts}
+use Rattle.retape.specs.declared.Retaped.{Retaped}
 use Rattle.retape.specs.Answers.{retape-answer}
+use Rattle.view.specs.Answers.{view-answer}
 use Rattle.demands.specs.Marked.{K-file, K-tapes, untouched, K-retape, good-with}
 use Rattle.demands.proofs.Marked.{marked}
-use Rattle.wrong.specs.Retaping.{TapeEngine, TapeMeetsOn, hands-old-tapes-back, refuses-freely}
+use Rattle.wrong.specs.Retaping.{TapeEngine, TapeMeets, TapeMeetsOn, hands-old-tapes-back, refuses-freely, ViewMeetsOn, checks-ten-first}
 
 -- the row of K8
 K8 : does (K-retape 3 (1 ∷ 0 ∷ []) (0 ∷ 1 ∷ []))
@@ -36,3 +46,20 @@ refusing-freely-fails n p file inputs tapes second site fresh room a m = a n p (
 
 pub refusing-freely-fails-on-K8 : (n p : ℕ) → ¬ OnK8 (refuses-freely n p)
 refusing-freely-fails-on-K8 n p = refusing-freely-fails n p _ _ _ _ _ _ _ (good-accepts (K-retape 3 (1 ∷ 0 ∷ []) (0 ∷ 1 ∷ [])) [] (ap (λ (z : After). z .answer) K8))
+
+-- so are the second draw flipped, another neighbour's tape, and whatever else is not these tapes
+pub K8-only : (r : Retaped) (fresh room : List ℕ) → TapeMeets K-file (1 ∷ 0 ∷ []) K-tapes (0 ∷ 1 ∷ []) 3 (untouched 10) (untouched 12) r fresh room
+    → fresh ≡ 0 ∷ 0 ∷ 0 ∷ 1 ∷ 0 ∷ 1 ∷ 0 ∷ 1 ∷ 1 ∷ 0 ∷ []
+K8-only r fresh room m = ap (λ (z : After). getD (z .lent) 0 []) (m ∙ K8)
+
+-- site 4 with empty buffers: the statement has 11
+eleven : does (View K-file (1 ∷ 1 ∷ []) K-tapes 4 [] []) .answer ≡ refused 11 0
+unfolding is dealing ands owned first le16 le32 size owner-at kind-at first-at second-at output-at site-of gate-of tested row-owner good-gate row-gate row-output refusal-table row fault verdict given-of concerns those-of stands-in order settle does
+eleven = refl
+
+ten-not-eleven : ¬ _≡_ {A = ℕ} 10 11
+ten-not-eleven e = omega arith
+
+pub ten-before-eleven-fails : ¬ ViewMeetsOn checks-ten-first K-file (1 ∷ 1 ∷ []) K-tapes 4 [] []
+unfolding view-answer number-of
+ten-before-eleven-fails m = ten-not-eleven (ap number-of (ap (λ (z : After). z .answer) m ∙ eleven))
