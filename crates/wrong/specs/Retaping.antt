@@ -3,7 +3,7 @@
 --     TapeMeets              the promise of `retape` (crates/retape/src/lib.rt), its one `ensures`;  TapeMeetsOn: an engine meets it on what it is given
 --     hands-old-tapes-back   whatever it lays down in the work room
 --     refuses-freely n p     with this number and place
---     ViewEngine, ViewMeetsOn, checks-ten-first    the same for a view: 10 before 11
+--     ViewEngine, ViewMeets, ViewMeetsOn, checks-ten-first    the same for a view: 10 before 11
 use mathlib.Core.Path.{_≡_}
 use mathlib.Core.List.{List}
 use Prim.Native.Nat.{ℕ}
@@ -38,10 +38,13 @@ refuses-freely n p file inputs tapes second site fresh room = (Refused n p, fres
 abbrev pub ViewEngine : Type 0
 ViewEngine = (file inputs tapes : List ℕ) → ℕ → (view store : List ℕ) → Viewed × List ℕ × List ℕ
 
+abbrev pub ViewMeets : (file inputs tapes : List ℕ) → ℕ → (view0 store0 : List ℕ) → Viewed → (view store : List ℕ) → Type 0
+ViewMeets file inputs tapes site view0 store0 r view store = view-after r view store ≡ does (View file inputs tapes site view0 store0)
+
 abbrev pub ViewMeetsOn : ViewEngine → (file inputs tapes : List ℕ) → ℕ → (view store : List ℕ) → Type 0
 ViewMeetsOn engine file inputs tapes site view store =
     let z = engine file inputs tapes site view store in
-    view-after (z .0) (z .1) (z .2) ≡ does (View file inputs tapes site view store)
+    ViewMeets file inputs tapes site view store (z .0) (z .1) (z .2)
 
 -- 10 looked at before 11, at an empty buffer and a site that is none
 abbrev pub checks-ten-first : ViewEngine
