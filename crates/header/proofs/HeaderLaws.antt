@@ -16,7 +16,7 @@ use Rattle.scope.proofs.Places.{Rising, refuse-at, place-verdict}
 use Rattle.header.specs.declared.Counts.{Counts}
 use Rattle.header.specs.declared.Header.{Header}
 use Rattle.header.specs.declared.Header.the-variants.{Good, Refused}
-use Rattle.header.specs.Mirror.{judged, header-of}
+use Rattle.header.specs.Mirror.{fields-judged, judged, header-of}
 
 unfoldable pub on-header : Header → Verdict → Verdict
 on-header (Good c) v = v
@@ -50,7 +50,7 @@ module _ (g : Given) where
       ∷ (24, not (eqb (le32 s 24) (32 + inputs-of s + 6 * gates-of s)))
       ∷ (28, not (eqb (le32 s 28) 0)) ∷ []) v))
       ≡ on-header (header-of s) v
-  unfolding refuse-at header-of judged
+  unfolding refuse-at header-of judged fields-judged
   header-steps v =
       let s = g .file in
       let i = inputs-of s in

@@ -1,3 +1,4 @@
 pub mod Opens
 pub mod HeaderLaws
 pub mod OpenLaws
+pub mod LimitLaws

@@ -13,13 +13,10 @@ use Rattle.header.specs.declared.Counts.{Counts}
 use Rattle.header.specs.declared.Header.{Header}
 use Rattle.header.specs.declared.Header.the-variants.{Good as HeaderGood, Refused as HeaderRefused}
 
--- checks 2 and 3, of a file of len bytes with these header fields
-unfoldable pub judged : ℕ → ℕ → ℕ → ℕ → ℕ → ℕ → ℕ → ℕ → ℕ → Header
-judged len n i g o p q r z =
-    cond (leb i 1024)
-    (cond (leb g 3072)
-    (cond (leb o 256)
-    (cond (eqb n (32 + i + 6 * g + 2 * o))
+-- check 3, of a file of len bytes with these header fields
+unfoldable pub fields-judged : ℕ → ℕ → ℕ → ℕ → ℕ → ℕ → ℕ → ℕ → ℕ → Header
+fields-judged len n i g o p q r z =
+    cond (eqb n (32 + i + 6 * g + 2 * o))
     (cond (eqb len n)
     (cond (eqb p 32)
     (cond (eqb q (32 + i))
@@ -30,7 +27,14 @@ judged len n i g o p q r z =
     (HeaderRefused 3 20))
     (HeaderRefused 3 16))
     (HeaderRefused 3 0))
-    (HeaderRefused 3 0))
+    (HeaderRefused 3 0)
+
+-- checks 2 and 3
+unfoldable pub judged : ℕ → ℕ → ℕ → ℕ → ℕ → ℕ → ℕ → ℕ → ℕ → Header
+judged len n i g o p q r z =
+    cond (leb i 1024)
+    (cond (leb g 3072)
+    (cond (leb o 256) (fields-judged len n i g o p q r z)
     (HeaderRefused 2 2))
     (HeaderRefused 2 1))
     (HeaderRefused 2 0)

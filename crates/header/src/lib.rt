@@ -4,7 +4,7 @@ ghost use Prim.Native.Nat.{ℕ, _+_, _*_, _<_, _≤_};
 ghost use lib.ListN.{length};
 ghost use Rattle.scope.specs.Calls.{Open, answers, does};
 ghost use Rattle.header.specs.Answers.{header-answer};
-ghost use Rattle.header.specs.Mirror.{judged, header-of, Fine, IsOpened};
+ghost use Rattle.header.specs.Mirror.{fields-judged, judged, header-of, Fine, IsOpened};
 
 // The counts of a file whose header is good.
 pub struct Counts {
@@ -19,20 +19,22 @@ pub enum Header {
     Refused(usize, usize),
 }
 
-// Checks 2 and 3 on the header's eight numbers. The limits come first, so no sum can wrap.
-fn judge(len: usize, n: u32, i: u32, g: u32, o: u32, p: u32, q: u32, r: u32, z: u32) -> Header
-    ensures { λ h. ⌜ h ≡ judged len n i g o p q r z ⌝ }
+// Check 3 on the header's numbers, which are within their limits, so that no sum can wrap.
+fn judge_fields(
+    len: usize,
+    n: u32,
+    i: u32,
+    g: u32,
+    o: u32,
+    p: u32,
+    q: u32,
+    r: u32,
+    z: u32,
+) -> Header
+    requires { ⌜ (i ≤ 1024) × (g ≤ 3072) × (o ≤ 256) ⌝ }
+    ensures { λ h. ⌜ h ≡ fields-judged len n i g o p q r z ⌝ }
     ensures { λ h. ⌜ Fine h len i g o ⌝ }
 {
-    if i > 1024 {
-        return Header::Refused(2, 0);
-    }
-    if g > 3072 {
-        return Header::Refused(2, 1);
-    }
-    if o > 256 {
-        return Header::Refused(2, 2);
-    }
     if n != 32 + i + 6 * g + 2 * o {
         return Header::Refused(3, 0);
     }
@@ -57,6 +59,18 @@ fn judge(len: usize, n: u32, i: u32, g: u32, o: u32, p: u32, q: u32, r: u32, z: 
         gates: g as usize,
         outputs: o as usize,
     })
+}
+
+// Checks 2 and 3 on the header's eight numbers.
+fn judge(len: usize, n: u32, i: u32, g: u32, o: u32, p: u32, q: u32, r: u32, z: u32) -> Header
+    ensures { λ h. ⌜ h ≡ judged len n i g o p q r z ⌝ }
+    ensures { λ h. ⌜ Fine h len i g o ⌝ }
+{
+    let place = limits::too_large(i, g, o);
+    if place < 3 {
+        return Header::Refused(2, place);
+    }
+    judge_fields(len, n, i, g, o, p, q, r, z)
 }
 
 // Checks 1 to 3.

@@ -33,9 +33,10 @@ use Rattle.header.specs.declared.Header.the-variants.{Good, Refused}
 use Rattle.header.specs.Answers.{header-answer}
 use Rattle.header.specs.Mirror.{Opened}
 use Rattle.checks.specs.Mirror.{Checked, IsChecked}
+use Rattle.entries.specs.Mirror.{table-of, plus, Under, from-input, from-gate, from-output}
 use Rattle.traffic.specs.Answers.{place-of}
 use Rattle.traffic.specs.declared.Refusal.{Refusal}
-use Rattle.traffic.specs.Mirror.{table-of, plus, Under, from-input, from-gate, from-output, input-steps, gate-steps, output-steps, sums-upto, refusal-by}
+use Rattle.traffic.specs.Mirror.{input-steps, gate-steps, output-steps, sums-upto, refusal-by}
 
 pub plus-tables : (f g : Site → Site → ℕ) → plus (table-of f) (table-of g) ≡ table-of (λ a b. f a b + g a b)
 unfolding plus
@@ -152,21 +153,6 @@ pub output-few : (o : ℕ) (a b : Site) → output-steps o a b ≤ 2
 output-few o a b = output-most a b
 
 -- what an input adds, by its owner's byte
-pub input-one : (o : ℕ) → o ≡ 1 → (0 ∷ 2 ∷ 2 ∷ []) ∷ (0 ∷ 0 ∷ 0 ∷ []) ∷ (0 ∷ 0 ∷ 0 ∷ []) ∷ [] ≡ from-input o
-unfolding from-input input-adds is site-of
-input-one o e = rw e
-
-pub input-two : (o : ℕ) → o ≡ 2 → (0 ∷ 0 ∷ 0 ∷ []) ∷ (2 ∷ 0 ∷ 2 ∷ []) ∷ (0 ∷ 0 ∷ 0 ∷ []) ∷ [] ≡ from-input o
-unfolding from-input input-adds is site-of
-input-two o e = rw e
-
-pub input-three : (o : ℕ) → (o ≡ 1 → ⊥) → (o ≡ 2 → ⊥) → (0 ∷ 0 ∷ 0 ∷ []) ∷ (0 ∷ 0 ∷ 0 ∷ []) ∷ (2 ∷ 2 ∷ 0 ∷ []) ∷ [] ≡ from-input o
-unfolding from-input input-adds is site-of
-input-three zero p q = refl
-input-three (suc zero) p q = absurd (p refl)
-input-three (suc (suc zero)) p q = absurd (q refl)
-input-three (suc (suc (suc n))) p q = refl
-
 -- what a gate adds, by whether it deals
 pub gate-table : (k : Gate) (d : ℕ) → d ≡ dealing k → from-gate d ≡ table-of (gate-adds k)
 unfolding from-gate gate-adds dealing is

@@ -7,7 +7,8 @@ ghost use Rattle.scope.specs.Calls.{Traffic, does};
 ghost use Rattle.sharing.specs.Traffic.{input-adds, gate-adds, output-adds, traffic-table};
 ghost use Rattle.header.specs.Mirror.{Opened};
 ghost use Rattle.traffic.specs.Answers.{place-of};
-ghost use Rattle.traffic.specs.Mirror.{table-of, plus, Under, from-input, from-gate, from-output, input-steps, gate-steps, output-steps, sums-upto, refusal-by};
+ghost use Rattle.entries.specs.Mirror.{table-of, plus, Under};
+ghost use Rattle.traffic.specs.Mirror.{input-steps, gate-steps, output-steps, sums-upto, refusal-by};
 use circuit::Gate;
 use circuit::Owner;
 use header::Counts;
@@ -17,48 +18,6 @@ use header::Header;
 struct Refusal {
     number: usize,
     place: usize,
-}
-
-// The sum of two tables, entry by entry.
-fn added(t: [[u32; 3]; 3], m: [[u32; 3]; 3]) -> [[u32; 3]; 3]
-    requires { ⌜ Under t 16384 × Under m 16384 ⌝ }
-    ensures { λ r. ⌜ r ≡ plus t m ⌝ }
-{
-    [
-        [t[0][0] + m[0][0], t[0][1] + m[0][1], t[0][2] + m[0][2]],
-        [t[1][0] + m[1][0], t[1][1] + m[1][1], t[1][2] + m[1][2]],
-        [t[2][0] + m[2][0], t[2][1] + m[2][1], t[2][2] + m[2][2]],
-    ]
-}
-
-// An input: 2 from its owner to each other site.
-fn input_adds(owner: u8) -> [[u32; 3]; 3]
-    ensures { λ r. ⌜ r ≡ from-input owner ⌝ }
-{
-    if owner == 1 {
-        return [[0, 2, 2], [0, 0, 0], [0, 0, 0]];
-    }
-    if owner == 2 {
-        return [[0, 0, 0], [2, 0, 2], [0, 0, 0]];
-    }
-    [[0, 0, 0], [0, 0, 0], [2, 2, 0]]
-}
-
-// An AND or OR: 2 for each ordered pair.
-fn gate_adds(deals: usize) -> [[u32; 3]; 3]
-    ensures { λ r. ⌜ r ≡ from-gate deals ⌝ }
-{
-    if deals == 1 {
-        return [[0, 2, 2], [2, 0, 2], [2, 2, 0]];
-    }
-    [[0, 0, 0], [0, 0, 0], [0, 0, 0]]
-}
-
-// An output: 1 from k+1 to k for each k. The comparing copy is left out.
-fn output_adds() -> [[u32; 3]; 3]
-    ensures { λ r. ⌜ r ≡ from-output ⌝ }
-{
-    [[0, 0, 1], [1, 0, 0], [0, 1, 0]]
 }
 
 // The table with one more input, gate or output.
@@ -71,8 +30,8 @@ fn input_step(file: &[u8], c: Counts, k: usize, t: [[u32; 3]; 3]) -> [[u32; 3]; 
     let Owner::Is(o) = a else {
         return t;
     };
-    let m = input_adds(o);
-    added(t, m)
+    let m = entries::input_adds(o);
+    entries::added(t, m)
 }
 
 fn gate_step(file: &[u8], c: Counts, k: usize, t: [[u32; 3]; 3]) -> [[u32; 3]; 3]
@@ -81,16 +40,16 @@ fn gate_step(file: &[u8], c: Counts, k: usize, t: [[u32; 3]; 3]) -> [[u32; 3]; 3
     ensures { λ r. ⌜ r ≡ plus t (table-of (gate-adds (circuit (now (file .entry)) .gate k))) ⌝ }
 {
     let d = checks::gate_deals(file, c, k);
-    let m = gate_adds(d);
-    added(t, m)
+    let m = entries::gate_adds(d);
+    entries::added(t, m)
 }
 
 fn output_step(t: [[u32; 3]; 3]) -> [[u32; 3]; 3]
     requires { ⌜ Under t 8192 ⌝ }
     ensures { λ r. ⌜ r ≡ plus t (table-of output-adds) ⌝ }
 {
-    let m = output_adds();
-    added(t, m)
+    let m = entries::output_adds();
+    entries::added(t, m)
 }
 
 // All inputs, all gates, all outputs.
@@ -146,8 +105,8 @@ fn whole_table(file: &[u8], c: Counts) -> [[u32; 3]; 3]
     let i = inputs_table(file, c);
     let g = gates_table(file, c);
     let o = outputs_table(c.outputs);
-    let ig = added(i, g);
-    added(ig, o)
+    let ig = entries::added(i, g);
+    entries::added(ig, o)
 }
 
 // The two numbers of a header's answer: 0 and 0 where it is good.

@@ -2,9 +2,9 @@ use borrow.Author.Needs.{needs}
 use mathlib.Core.Path.{refl}
 use Rattle.sharing.specs.Sites.{is}
 use Rattle.sharing.specs.Traffic.{output-adds}
-use Rattle.traffic.specs.Mirror.{from-output}
-use Rattle.traffic.proofs.output_adds.Statement.{statement}
-use Rattle.traffic.proofs.output_adds.Tie as tie
+use Rattle.entries.specs.Mirror.{from-output}
+use Rattle.entries.proofs.output_adds.Statement.{statement}
+use Rattle.entries.proofs.output_adds.Tie as tie
 
 returns : tie.Need-returns
 unfolding from-output output-adds is

@@ -1,9 +1,9 @@
 use borrow.Author.Needs.{needs}
 use borrow.Author.Tests.{eq-eqb, ne-eqb}
 use Rattle.sharing.specs.Sites.{is}
-use Rattle.traffic.specs.Mirror.{from-gate}
-use Rattle.traffic.proofs.gate_adds.Statement.{statement}
-use Rattle.traffic.proofs.gate_adds.Tie as tie
+use Rattle.entries.specs.Mirror.{from-gate}
+use Rattle.entries.proofs.gate_adds.Statement.{statement}
+use Rattle.entries.proofs.gate_adds.Tie as tie
 
 returns : tie.Need-returns
 unfolding from-gate is

@@ -1,7 +1,7 @@
 use borrow.Author.Needs.{needs}
-use Rattle.traffic.proofs.TrafficCall.{input-one, input-two, input-three}
-use Rattle.traffic.proofs.input_adds.Statement.{statement}
-use Rattle.traffic.proofs.input_adds.Tie as tie
+use Rattle.entries.proofs.InputLaws.{input-one, input-two, input-three}
+use Rattle.entries.proofs.input_adds.Statement.{statement}
+use Rattle.entries.proofs.input_adds.Tie as tie
 
 returns : tie.Need-returns
 returns c = input-one _ (c .if1 .taken)

@@ -1,8 +1,8 @@
 use borrow.Author.Needs.{needs}
 use mathlib.Core.Path.{refl}
-use Rattle.traffic.specs.Mirror.{plus}
-use Rattle.traffic.proofs.added.Statement.{statement}
-use Rattle.traffic.proofs.added.Tie as tie
+use Rattle.entries.specs.Mirror.{plus}
+use Rattle.entries.proofs.added.Statement.{statement}
+use Rattle.entries.proofs.added.Tie as tie
 
 returns : tie.Need-returns
 unfolding plus
