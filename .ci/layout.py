@@ -3,6 +3,7 @@
 - Every folder under crates/ is a line of crates.txt, and the other way round.
 - No definition or proof declares an axiom.
 - No public call has a `requires`. A public call is a function whose comment begins "PUBLIC."; docs/STATEMENTS.md names each of them.
+- No function over a Reader that a caller outside can reach has a `requires`: anybody can make a Reader.
 - Every must-fail edit says in its first line what wrong program it is.
 - Sources are in the toolchain's layout (`rt fmt --check`).
 """
@@ -24,12 +25,20 @@ def listed():
     return names
 
 
-def public_calls():
-    """Path, name, and the text between the comment and the body, of each public call."""
-    call = re.compile(r"^// PUBLIC\..*\n(?://.*\n)*pub (?:extern \"C\" )?fn (\w+)([^{]*(?:\{ λ[^\n]*\n[^{]*)*)", re.M)
+def reachable(comment):
+    """Path, name, and the text up to the body, of each function with such a comment that a caller outside can reach."""
+    head = re.compile(comment + r"pub (?:extern \"C\" )?fn (\w+)([^{]*(?:\{ λ[^\n]*\n[^{]*)*)", re.M)
     for path in sorted((ROOT / "crates").glob("*/src/*.rt")):
-        for found in call.finditer(path.read_text()):
+        for found in head.finditer(path.read_text()):
             yield path.relative_to(ROOT), found.group(1), found.group(0)
+
+
+def public_calls():
+    return reachable(r"^// PUBLIC\..*\n(?://.*\n)*")
+
+
+def over_reader():
+    return (found for found in reachable(r"^") if re.search(r"\(.*\bReader\b.*\)", found[2].split("->")[0], re.S))
 
 
 def problems():
@@ -41,6 +50,9 @@ def problems():
             yield f"{path}: public call {name} ensures nothing"
         if f"[`{name}`](../{path})" not in named:
             yield f"{path}: public call {name} is not in docs/STATEMENTS.md"
+    for path, name, text in over_reader():
+        if re.search(r"^\s*requires\b", text, re.M):
+            yield f"{path}: {name} is over a Reader, can be reached from outside and has a requires"
     folders = {path.name for path in (ROOT / "crates").iterdir() if path.is_dir()}
     for name in sorted(folders ^ listed()):
         yield f"crates/{name} and crates.txt differ"

@@ -22,10 +22,10 @@ use Rattle.sharing.proofs.Clean.{held, look-hold}
 use Rattle.sharing.proofs.RunLaws.{after-length}
 use Rattle.sharing.proofs.Seen.{got, to-site3, gates-got}
 use Rattle.scope.proofs.RunCall.{bit-draws}
-use Rattle.site.specs.Mirror.{twelve}
+use Rattle.messages.specs.Mirror.{twelve}
 use Rattle.steps.specs.Mirror.{on-lines, put-four, sends, takes}
-use Rattle.site.specs.declared.Four.{Four}
-use Rattle.site.specs.declared.Twelve.{Twelve}
+use Rattle.messages.specs.declared.Four.{Four}
+use Rattle.messages.specs.declared.Twelve.{Twelve}
 use Rattle.engine.specs.Mirror.{St, st, Lower}
 use Rattle.link.specs.Link.{stored, Cut, sent3}
 use Rattle.link.specs.Loops.{place, in-places}

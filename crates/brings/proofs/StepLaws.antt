@@ -11,8 +11,8 @@ use Rattle.sharing.specs.Ops.{bits}
 use Rattle.sharing.specs.Sites.{Site}
 use Rattle.sharing.specs.Circuit.{Gate, XOR, AND, OR, NOT, dealing}
 use Rattle.steps.specs.Mirror.{add-gate, not-gate, sends, takes, put-four}
-use Rattle.site.specs.declared.Four.{Four}
-use Rattle.site.specs.declared.Twelve.{Twelve}
+use Rattle.messages.specs.declared.Four.{Four}
+use Rattle.messages.specs.declared.Twelve.{Twelve}
 use Rattle.engine.specs.declared.Pos.{Pos}
 use Rattle.engine.specs.Mirror.{St, st}
 use Rattle.seen.specs.Mirror.{four-of-site, past-and, and-seen, gate-seen, AndRoom}

@@ -4,14 +4,14 @@ ghost use Prim.Native.Nat.{_+_, _*_, _<_, _≤_};
 ghost use lib.ListN.{length};
 ghost use Rattle.sharing.specs.Circuit.{dealing};
 ghost use Rattle.scope.specs.File.{circuit, gate-of, site-of};
-ghost use Rattle.checks.specs.Mirror.{Checked};
+ghost use Rattle.circuit.specs.Checked.{Checked};
 ghost use Rattle.engine.specs.Mirror.{st, Lower};
 ghost use Rattle.seen.specs.Mirror.{four-of-site, past-and, and-seen, gate-seen, gates-seen, AndRoom, Seeing, Begun};
 use circuit::Gate;
 use engine::Pos;
 use header::Counts;
-use site::Four;
-use site::Twelve;
+use messages::Four;
+use messages::Twelve;
 
 // Of the twelve bits of an AND or OR, the four that reach the site: two from each other sender, senders in order.
 fn four_of_site(m: Twelve, site: usize) -> Four
@@ -131,7 +131,7 @@ fn gate_step(
 {
     let n = c.inputs + c.gates;
     let w = c.inputs + k;
-    let r = circuit::gate_with(file, c, k);
+    let r = reader::gate_with(file, c, k);
     let Gate::Is(kind, a, b) = r else {
         return pos;
     };

@@ -1,76 +1,32 @@
 -- The chains of the checks, as the code meets them.
---     bits-short, bits-above, bits-sound    the fault of a slice of bits;  bits-long: where there is none it has its length
+--     parts-owner, parts-gate, parts-output, parts-good     the four ways out of checks 4 to 6
+--     check-out, check-in      the call's answer is the definition's;  check-one: two answers that are, are equal
 -- Assumes nothing.
-use mathlib.Core.Path.{_≡_, refl, sym, ap, ap₂, _∙_, subst}
-use mathlib.Core.Bool.{Bool, true, false, not, cond, _&&_, _||_}
+use mathlib.Core.Path.{_≡_, refl, sym, ap, _∙_, subst}
+use mathlib.Core.Bool.{Bool, true, false, cond}
 use mathlib.Core.List.{List, [], _∷_}
-use Prim.Native.Nat.{ℕ, zero, suc, _+_, _<_, _≤_}
-use native.Mathlib.Omega.{arith}
-use native.Mathlib.Numerals.{add-one}
-use lib.ListN.{length, getD}
-use lib.Dec.{leb, ltb, eqb}
-use borrow.Author.Tests.{lt-ltb, le-ltb, ltb-true, ltb-false, eq-eqb, ne-eqb, not-false}
+use Prim.Native.Nat.{ℕ, _<_, _≤_}
+use lib.Dec.{ltb}
+use borrow.Author.Tests.{lt-ltb, le-ltb, ltb-true, ltb-false, not-false}
 use Rattle.sharing.specs.First.{first}
-use Rattle.sharing.proofs.FirstLaws.{Clear, first-at, first-none, first-hit, first-before, first-clear}
-use Rattle.scope.specs.File.{kind-at, first-at as operand-at, second-at, owner-at, output-at}
+use Rattle.sharing.proofs.FirstLaws.{first-clear}
 use Rattle.scope.specs.Answer.{good, After}
-use Rattle.scope.specs.Checks.{one-to-three, good-gate, fault, bits-row, row, refusal-table, row-owner, row-gate, row-output, accepted, refuses, verdict}
+use Rattle.scope.specs.Checks.{fault, row, refusal-table, row-owner, row-gate, row-output, accepted, refuses, verdict}
 use Rattle.scope.specs.Refusal.{stands-in, those-of}
 use Rattle.scope.specs.Calls.{Check, given-of, concerns, order, lent-before, lent-at-13, when-good, returned-refused, answers, does}
 use Rattle.scope.proofs.CallLaws.{does-good}
-use Rattle.scope.proofs.RowLaws.{bits-clear}
 use Rattle.header.specs.declared.Counts.{Counts}
 use Rattle.header.specs.declared.Header.{Header}
 use Rattle.header.specs.declared.Header.the-variants.{Good, Refused}
-use Rattle.circuit.specs.declared.Gate.{Gate}
-use Rattle.circuit.specs.declared.Gate.the-variants.{Is as GateIs}
-use Rattle.circuit.specs.declared.Owner.{Owner}
-use Rattle.circuit.specs.declared.Owner.the-variants.{Is as OwnerIs}
-use Rattle.circuit.specs.declared.Output.{Output}
-use Rattle.circuit.specs.declared.Output.the-variants.{Is as OutputIs}
-use Rattle.header.specs.Mirror.{header-of, Opened, IsOpened}
-use Rattle.circuit.specs.Mirror.{gate-by, owner-by, output-by}
-use Rattle.circuit.proofs.ReaderLaws.{gate-some, owner-some, output-some}
+use Rattle.header.specs.Mirror.{header-of}
+use Rattle.header.specs.Opened.{Opened, IsOpened}
 use Rattle.header.proofs.OpenLaws.{only-answer, opened-from, header-inj}
 use Rattle.header.specs.Answers.{header-answer}
 use Rattle.header.proofs.HeaderLaws.{header-refused, header-good}
-use Rattle.faults.specs.Mirror.{bad-owner, bad-kind, bad-gate, bad-output, above}
-use Rattle.checks.specs.Mirror.{checked-of, Checked, IsChecked}
-
--- the fault of a slice of bits: the wanted length, an index, or one beyond
-module _ (s : List ℕ) (want : ℕ) where
-  long : length s ≡ want → (p : ℕ) → p < want → bits-row s want .bad p ≡ above s p
-  unfolding above
-  long e p h = rw (eq-eqb _ _ e, lt-ltb p want h)
-
-  pub bits-short : (length s ≡ want → ⊥) → want ≡ fault (bits-row s want)
-  unfolding fault
-  bits-short h = sym (first-at (bits-row s want .bad) want (suc want) (λ p l. rw (ne-eqb (length s) want h, ne-eqb p want (λ e. omega arith))) (omega arith) (rw (ne-eqb (length s) want h, eq-eqb want want refl)))
-
-  pub bits-above : (k : ℕ) → length s ≡ want → k ≡ first (above s) want → k < want → k ≡ fault (bits-row s want)
-  unfolding fault
-  bits-above k e q h =
-      let f : first (above s) want < want = (let z : k ≡ first (above s) want = q in omega arith) in
-      q ∙ sym (first-at (bits-row s want .bad) (first (above s) want) (suc want)
-      (λ p l. long e p (omega arith) ∙ first-before (above s) want p l) (omega arith)
-      (long e (first (above s) want) f ∙ first-hit (above s) want f))
-
-  pub bits-sound : (k : ℕ) → length s ≡ want → k ≡ first (above s) want → want ≤ k → want + 1 ≡ fault (bits-row s want)
-  unfolding fault
-  bits-sound k e q h =
-      add-one want
-      ∙ sym (first-none (bits-row s want .bad) (suc want) (λ p l. go p (ltb p want) refl))
-    where
-      clear : Clear (above s) want
-      clear = first-clear (above s) want (let z : k ≡ first (above s) want = q in omega arith)
-
-      go : (p : ℕ) (b : Bool) → ltb p want ≡ b → bits-row s want .bad p ≡ false
-      go p true t = let h : p < want = ltb-true p want t in long e p h ∙ clear p h
-      go p false t = rw (eq-eqb _ _ e, t)
-
-  pub bits-long : (k : ℕ) → k ≡ fault (bits-row s want) → want < k → length s ≡ want
-  unfolding fault
-  bits-long k e h = bits-clear s want (first-clear (bits-row s want .bad) (suc want) (omega arith)) .long
+use Rattle.faults.specs.Mirror.{bad-owner, bad-kind, bad-gate, bad-output}
+use Rattle.checks.specs.Mirror.{checked-of}
+use Rattle.circuit.specs.Checked.{IsChecked}
+use Rattle.circuit.specs.Checked.{Checked}
 
 -- checks 4 to 6, as the code goes through them
 pub parts-owner : (s : List ℕ) (c : Counts) (i : ℕ) → i ≡ first (bad-owner s) (c .inputs) → i < c .inputs → Refused 4 i ≡ checked-of s c

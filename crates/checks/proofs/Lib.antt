@@ -1,3 +1,3 @@
 pub mod CheckLaws
-pub mod CountLaws
 pub mod FrontLaws
+pub mod TestLaws

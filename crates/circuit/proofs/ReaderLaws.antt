@@ -2,24 +2,22 @@
 --     gate-refused, owner-refused, output-refused    a question to a file whose header is refused
 --     gate-law, owner-law, output-law         a question to an opened file
 --     .. -none, .. -some                      a question by a number below its count is answered
---     .. -one                                 two answers that meet a call's statement are equal
 -- Assumes nothing.
-use mathlib.Core.Path.{_≡_, refl, sym, ap, ap₂, _∙_, subst}
-use mathlib.Core.Bool.{Bool, true, false, not, cond, true≢false}
+use mathlib.Core.Path.{_≡_, refl, sym, ap, ap₂, _∙_}
+use mathlib.Core.Bool.{Bool, true, false, not, cond}
 use mathlib.Core.List.{List, [], _∷_}
-use Prim.Native.Nat.{ℕ, zero, suc, _<_, _≤_}
+use Prim.Native.Nat.{ℕ, suc, _<_}
 use native.Mathlib.Omega.{arith}
-use lib.Dec.{leb, ltb, eqb}
+use lib.Dec.{leb, ltb}
 use borrow.Author.Tests.{leb-true, leb-false, lt-ltb, le-ltb, lt-leb}
 use Rattle.scope.specs.File.{inputs-of, gates-of, outputs-of, kind-at, first-at, second-at, owner-at, output-at}
-use Rattle.scope.specs.Answer.{Answer, good, abort, refused, After}
-use Rattle.scope.specs.Checks.{Asked, for-gate, for-owner, for-output, Given, tested, row, row-gate, row-owner, row-output, refusal-table, Verdict, accepted, refuses, verdict}
+use Rattle.scope.specs.Answer.{Answer, good, refused}
+use Rattle.scope.specs.Checks.{Given, tested, row, row-gate, row-owner, row-output, refusal-table, accepted, refuses, verdict}
 use Rattle.scope.specs.Refusal.{stands-in, those-of}
-use Rattle.scope.specs.Calls.{Call, Open, GateAt, OwnerAt, OutputAt, given-of, concerns, order, answers, counts, when-good, when-refused, lent-before, lent-at-13, returned-refused, does}
-use Rattle.scope.proofs.CallLaws.{does-good, does-refused}
+use Rattle.scope.specs.Calls.{GateAt, OwnerAt, OutputAt, given-of, concerns, order, answers, when-good, lent-before, lent-at-13, returned-refused, does}
+use Rattle.scope.proofs.CallLaws.{does-good}
 use Rattle.scope.proofs.Places.{Rising, refuse-at, place-verdict}
 use Rattle.header.specs.declared.Counts.{Counts}
-use Rattle.header.specs.declared.Header.{Header}
 use Rattle.header.specs.declared.Header.the-variants.{Good as HeaderGood, Refused as HeaderRefused}
 use Rattle.circuit.specs.declared.Gate.{Gate}
 use Rattle.circuit.specs.declared.Gate.the-variants.{Is as GateIs, Refused as GateRefused}
@@ -28,10 +26,11 @@ use Rattle.circuit.specs.declared.Owner.the-variants.{Is as OwnerIs, Ref
 use Rattle.circuit.specs.declared.Output.{Output}
 use Rattle.circuit.specs.declared.Output.the-variants.{Is as OutputIs, Refused as OutputRefused}
 use Rattle.circuit.specs.Answers.{gate-answer, owner-answer, output-answer}
-use Rattle.circuit.specs.Mirror.{gate-by, owner-by, output-by, gate-refusal, owner-refusal, output-refusal}
-use Rattle.header.specs.Mirror.{header-of, Opened, IsOpened}
+use Rattle.circuit.specs.Mirror.{gate-by, owner-by, output-by}
+use Rattle.header.specs.Mirror.{header-of}
+use Rattle.header.specs.Opened.{Opened}
 use Rattle.header.proofs.HeaderLaws.{header-refused, header-good}
-use Rattle.header.proofs.OpenLaws.{good-is-not-refused, only-answer, opened-from}
+use Rattle.header.proofs.OpenLaws.{good-is-not-refused, only-answer}
 
 -- the answers as plain functions, to tell their cases apart
 abbrev gate-plain : Gate → Answer
@@ -136,57 +135,6 @@ module _ (s : List ℕ) (c : Counts) (k : ℕ) (o : Opened s c) (e : header-of s
       go : (b : Bool) → leb (c .outputs) k ≡ b → answers (output-answer (cond b (OutputRefused 6 (c .outputs)) (OutputIs (output-at s (c .inputs) (c .gates) k)))) ≡ does (OutputAt s k)
       go true q = output-refuses s k 6 (c .outputs) (output-verdict ∙ rw (le-ltb k (c .outputs) (leb-true _ _ q)))
       go false q = output-good ∙ sym (does-good (OutputAt s k) (output-verdict ∙ rw (lt-ltb k (c .outputs) (leb-false _ _ q))))
-
--- the same, as the code meets them: the header's answer h, taken apart
-
-pub gate-out : (h : Header) (s : List ℕ) (k n p : ℕ) (r : Gate) → h ≡ header-of s → h ≡ HeaderRefused n p → r ≡ gate-refusal h → answers (gate-answer r) ≡ does (GateAt s k)
-gate-out h s k n p r e q a = ap (λ (z : Gate). answers (gate-answer z)) (a ∙ ap gate-refusal q) ∙ gate-refused s k n p (sym e ∙ q)
-
-pub gate-in : (h : Header) (s : List ℕ) (c : Counts) (k : ℕ) (r : Gate) → h ≡ header-of s → IsOpened h s → h ≡ HeaderGood c → r ≡ gate-by s c k → answers (gate-answer r) ≡ does (GateAt s k)
-gate-in h s c k r e o q a = ap (λ (z : Gate). answers (gate-answer z)) a ∙ gate-law s c k (opened-from h s c q o) (sym e ∙ q)
-
-pub owner-out : (h : Header) (s : List ℕ) (k n p : ℕ) (r : Owner) → h ≡ header-of s → h ≡ HeaderRefused n p → r ≡ owner-refusal h → answers (owner-answer r) ≡ does (OwnerAt s k)
-owner-out h s k n p r e q a = ap (λ (z : Owner). answers (owner-answer z)) (a ∙ ap owner-refusal q) ∙ owner-refused s k n p (sym e ∙ q)
-
-pub owner-in : (h : Header) (s : List ℕ) (c : Counts) (k : ℕ) (r : Owner) → h ≡ header-of s → IsOpened h s → h ≡ HeaderGood c → r ≡ owner-by s c k → answers (owner-answer r) ≡ does (OwnerAt s k)
-owner-in h s c k r e o q a = ap (λ (z : Owner). answers (owner-answer z)) a ∙ owner-law s c k (opened-from h s c q o) (sym e ∙ q)
-
-pub output-out : (h : Header) (s : List ℕ) (k n p : ℕ) (r : Output) → h ≡ header-of s → h ≡ HeaderRefused n p → r ≡ output-refusal h → answers (output-answer r) ≡ does (OutputAt s k)
-output-out h s k n p r e q a = ap (λ (z : Output). answers (output-answer z)) (a ∙ ap output-refusal q) ∙ output-refused s k n p (sym e ∙ q)
-
-pub output-in : (h : Header) (s : List ℕ) (c : Counts) (k : ℕ) (r : Output) → h ≡ header-of s → IsOpened h s → h ≡ HeaderGood c → r ≡ output-by s c k → answers (output-answer r) ≡ does (OutputAt s k)
-output-in h s c k r e o q a = ap (λ (z : Output). answers (output-answer z)) a ∙ output-law s c k (opened-from h s c q o) (sym e ∙ q)
-
--- two answers that meet a call's statement are equal
-gate-inj : (q r : Gate) → gate-answer q ≡ gate-answer r → q ≡ r
-unfolding gate-answer
-gate-inj (GateIs k a b) (GateIs k′ a′ b′) e = cc
-gate-inj (GateIs k a b) (GateRefused n p) e = absurd (good-is-not-refused _ n p e)
-gate-inj (GateRefused n p) (GateIs k a b) e = absurd (good-is-not-refused _ n p (sym e))
-gate-inj (GateRefused n p) (GateRefused n′ p′) e = cc
-
-owner-inj : (q r : Owner) → owner-answer q ≡ owner-answer r → q ≡ r
-unfolding owner-answer
-owner-inj (OwnerIs o) (OwnerIs o′) e = cc
-owner-inj (OwnerIs o) (OwnerRefused n p) e = absurd (good-is-not-refused _ n p e)
-owner-inj (OwnerRefused n p) (OwnerIs o) e = absurd (good-is-not-refused _ n p (sym e))
-owner-inj (OwnerRefused n p) (OwnerRefused n′ p′) e = cc
-
-output-inj : (q r : Output) → output-answer q ≡ output-answer r → q ≡ r
-unfolding output-answer
-output-inj (OutputIs w) (OutputIs w′) e = cc
-output-inj (OutputIs w) (OutputRefused n p) e = absurd (good-is-not-refused _ n p e)
-output-inj (OutputRefused n p) (OutputIs w) e = absurd (good-is-not-refused _ n p (sym e))
-output-inj (OutputRefused n p) (OutputRefused n′ p′) e = cc
-
-pub gate-one : (s : List ℕ) (k : ℕ) (q r : Gate) → answers (gate-answer q) ≡ does (GateAt s k) → answers (gate-answer r) ≡ does (GateAt s k) → q ≡ r
-gate-one s k q r a b = gate-inj q r (ap (λ (z : After). z .answer) (a ∙ sym b))
-
-pub owner-one : (s : List ℕ) (k : ℕ) (q r : Owner) → answers (owner-answer q) ≡ does (OwnerAt s k) → answers (owner-answer r) ≡ does (OwnerAt s k) → q ≡ r
-owner-one s k q r a b = owner-inj q r (ap (λ (z : After). z .answer) (a ∙ sym b))
-
-pub output-one : (s : List ℕ) (k : ℕ) (q r : Output) → answers (output-answer q) ≡ does (OutputAt s k) → answers (output-answer r) ≡ does (OutputAt s k) → q ≡ r
-output-one s k q r a b = output-inj q r (ap (λ (z : After). z .answer) (a ∙ sym b))
 
 -- a question by a number below its count, for loops that ask only those
 

@@ -1,6 +1,5 @@
 -- 01's number and values for each case of the reader's answers. Promises go through these.
-use mathlib.Core.List.{List, [], _∷_}
-use Prim.Native.Nat.{ℕ}
+use mathlib.Core.List.{[], _∷_}
 use Rattle.scope.specs.Answer.{Answer, good, refused}
 use Rattle.circuit.specs.declared.Gate.{Gate}
 use Rattle.circuit.specs.declared.Gate.the-variants.{Is as GateIs, Refused as GateRefused}

@@ -1,2 +1,3 @@
 pub mod Answers
 pub mod Mirror
+pub mod Checked

@@ -1,12 +1,8 @@
-// The reader: gate, owner and output by number, from the caller's slice, with no second copy.
+// Under the reader: gate, owner and output by number, on the caller's slice and counts, with no second copy.
 ghost use mathlib.Core.Path.{_≡_};
-ghost use Prim.Native.Nat.{ℕ, _+_, _*_, _<_, _≤_};
-ghost use lib.ListN.{length};
-ghost use Rattle.scope.specs.Calls.{GateAt, OwnerAt, OutputAt, answers, does};
-ghost use Rattle.header.specs.Mirror.{Opened};
-ghost use Rattle.circuit.specs.Answers.{gate-answer, owner-answer, output-answer};
+ghost use Prim.Native.Nat.{_+_, _*_, _<_};
+ghost use Rattle.header.specs.Opened.{Opened};
 ghost use Rattle.circuit.specs.Mirror.{gate-by, owner-by, output-by, gate-refusal, owner-refusal, output-refusal};
-use header::Counts;
 use header::Header;
 
 // A gate's three numbers as they are stored: kind, first, second.
@@ -63,63 +59,8 @@ pub fn output_at(file: &[u8], inputs: usize, gates: usize, outputs: usize, k: us
     Output::Is(numbers::u16_at(file, 32 + inputs + 6 * gates + 2 * k))
 }
 
-// Plain parameters over the core: every loop reads through these.
-pub fn gate_with(file: &[u8], c: Counts, k: usize) -> Gate
-    requires { ⌜ Opened (now file) c ⌝ }
-    ensures { λ r. ⌜ r ≡ gate-by (now (file .entry)) c k ⌝ }
-{
-    gate_at(file, c.inputs, c.gates, c.outputs, k)
-}
-
-pub fn owner_with(file: &[u8], c: Counts, k: usize) -> Owner
-    requires { ⌜ Opened (now file) c ⌝ }
-    ensures { λ r. ⌜ r ≡ owner-by (now (file .entry)) c k ⌝ }
-{
-    owner_at(file, c.inputs, c.gates, c.outputs, k)
-}
-
-pub fn output_with(file: &[u8], c: Counts, k: usize) -> Output
-    requires { ⌜ Opened (now file) c ⌝ }
-    ensures { λ r. ⌜ r ≡ output-by (now (file .entry)) c k ⌝ }
-{
-    output_at(file, c.inputs, c.gates, c.outputs, k)
-}
-
-// PUBLIC. Gate k, whatever number k is. The header's answer is taken apart before any gate is read, and its refusal goes out as it came.
-pub fn gate_of(file: &[u8], k: usize) -> Gate
-    ensures { λ r. ⌜ answers (gate-answer r) ≡ does (GateAt (now (file .entry)) k) ⌝ }
-{
-    let h = header::read_header(file);
-    let Header::Good(c) = h else {
-        return gate_refused(h);
-    };
-    gate_with(file, c, k)
-}
-
-// PUBLIC. The owner of input k.
-pub fn owner_of(file: &[u8], k: usize) -> Owner
-    ensures { λ r. ⌜ answers (owner-answer r) ≡ does (OwnerAt (now (file .entry)) k) ⌝ }
-{
-    let h = header::read_header(file);
-    let Header::Good(c) = h else {
-        return owner_refused(h);
-    };
-    owner_with(file, c, k)
-}
-
-// PUBLIC. The wire of output k.
-pub fn output_of(file: &[u8], k: usize) -> Output
-    ensures { λ r. ⌜ answers (output-answer r) ≡ does (OutputAt (now (file .entry)) k) ⌝ }
-{
-    let h = header::read_header(file);
-    let Header::Good(c) = h else {
-        return output_refused(h);
-    };
-    output_with(file, c, k)
-}
-
 // A header's refusal as each accessor's answer has it. A good header has none; nobody asks.
-fn gate_refused(h: Header) -> Gate
+pub fn gate_refused(h: Header) -> Gate
     ensures { λ r. ⌜ r ≡ gate-refusal h ⌝ }
 {
     match h {
@@ -128,7 +69,7 @@ fn gate_refused(h: Header) -> Gate
     }
 }
 
-fn owner_refused(h: Header) -> Owner
+pub fn owner_refused(h: Header) -> Owner
     ensures { λ r. ⌜ r ≡ owner-refusal h ⌝ }
 {
     match h {
@@ -137,7 +78,7 @@ fn owner_refused(h: Header) -> Owner
     }
 }
 
-fn output_refused(h: Header) -> Output
+pub fn output_refused(h: Header) -> Output
     ensures { λ r. ⌜ r ≡ output-refusal h ⌝ }
 {
     match h {

@@ -29,7 +29,7 @@ use Rattle.circuit.specs.declared.Output.{Output}
 use Rattle.circuit.specs.declared.Output.the-variants.{Is as OutputIs}
 use Rattle.circuit.specs.Mirror.{output-by}
 use Rattle.circuit.proofs.ReaderLaws.{output-some}
-use Rattle.checks.specs.Mirror.{Checked}
+use Rattle.circuit.specs.Checked.{Checked}
 use Rattle.differs.specs.Mirror.{own-differs, opened-differs, two-sets}
 
 pub own-law : (f : List ℕ) (s : Site) (x y : List ℕ) (k r : ℕ) → r ≡ cond (is s (circuit f .owner k)) 1 0

@@ -6,7 +6,7 @@ ghost use Rattle.sharing.specs.First.{first};
 ghost use Rattle.scope.specs.File.{circuit, site-of};
 ghost use Rattle.scope.specs.Checks.{fault, row-differs};
 ghost use Rattle.scope.specs.Calls.{both-plain};
-ghost use Rattle.checks.specs.Mirror.{Checked};
+ghost use Rattle.circuit.specs.Checked.{Checked};
 ghost use Rattle.differs.specs.Mirror.{own-differs, opened-differs, two-sets};
 use circuit::Output;
 use header::Counts;
@@ -16,7 +16,7 @@ fn own_bad(file: &[u8], c: Counts, site: usize, xs: &[u8], ys: &[u8], k: usize) 
     requires { ⌜ Checked (now file) c × (k < c .inputs) × (length (now xs) ≡ c .inputs) × (length (now ys) ≡ c .inputs) ⌝ }
     ensures { λ r. ⌜ r ≡ own-differs (now (file .entry)) (site-of site) (now (xs .entry)) (now (ys .entry)) k ⌝ }
 {
-    let o = checks::input_owned(file, c, site, k);
+    let o = tally::input_owned(file, c, site, k);
     (o == 1) & !(xs[k] == ys[k])
 }
 
@@ -26,7 +26,7 @@ fn opened_bad(file: &[u8], c: Counts, room: &[u8], k: usize) -> bool
     ensures { λ r. ⌜ r ≡ opened-differs (now (file .entry)) (c .inputs) (c .gates) (now (room .entry)) k ⌝ }
 {
     let n = c.inputs + c.gates;
-    let a = circuit::output_with(file, c, k);
+    let a = reader::output_with(file, c, k);
     let Output::Is(w) = a else {
         return true;
     };

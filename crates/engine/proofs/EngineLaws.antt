@@ -21,18 +21,18 @@ use Rattle.sharing.specs.Circuit.{Gate, XOR, AND, OR, NOT, dealing, ands, owned
 use Rattle.scope.specs.File.{kind-at, first-at, second-at, owner-at, gate-of, site-of, circuit}
 use Rattle.scope.specs.Checks.{good-gate}
 use Rattle.header.specs.declared.Counts.{Counts}
-use Rattle.header.specs.Mirror.{Opened}
+use Rattle.header.specs.Opened.{Opened}
 use Rattle.circuit.specs.declared.Gate.{Gate as Read}
 use Rattle.circuit.specs.declared.Gate.the-variants.{Is as GateIs}
 use Rattle.circuit.specs.Mirror.{gate-by}
 use Rattle.circuit.proofs.ReaderLaws.{gate-some}
-use Rattle.checks.specs.Mirror.{Checked}
-use Rattle.checks.proofs.FrontLaws.{operands-lower}
-use Rattle.site.specs.Mirror.{deal-at, on-line, in-pairs, line-at}
+use Rattle.circuit.specs.Checked.{Checked}
+use Rattle.circuit.proofs.CheckedLaws.{operands-lower}
+use Rattle.messages.specs.Mirror.{deal-at, on-line, in-pairs, line-at}
 use Rattle.steps.specs.Mirror.{add-gate, not-gate, put-four, put-held, sends, takes, on-lines, put-twelve}
-use Rattle.site.specs.declared.Twelve.{Twelve}
-use Rattle.site.specs.declared.Four.{Four}
-use Rattle.site.specs.declared.Held.{Held}
+use Rattle.messages.specs.declared.Twelve.{Twelve}
+use Rattle.messages.specs.declared.Four.{Four}
+use Rattle.messages.specs.declared.Held.{Held}
 use Rattle.engine.specs.declared.Pos.{Pos}
 use Rattle.engine.specs.Mirror.{St, st, placed, next-pos, and-on, gate-on, Lower, Room, up-to, gates-on, own-place, in-pos, input-on, inputs-on, InRoom}
 

@@ -20,10 +20,10 @@ use Rattle.sharing.specs.Ops.{bits}
 use Rattle.sharing.specs.Circuit.{Gate, XOR, AND, OR, NOT, owned}
 use Rattle.sharing.specs.Sites.{Site, s1, s2, s3}
 use Rattle.scope.specs.File.{circuit, owner-at}
-use Rattle.site.specs.Mirror.{deal-at, line-at, on-line, in-pairs, on-line-six, objects-of, opened-of}
+use Rattle.messages.specs.Mirror.{deal-at, line-at, on-line, in-pairs, on-line-six, objects-of, opened-of}
 use Rattle.steps.specs.Mirror.{add-gate, not-gate, sends, takes, on-lines, put-four, put-twelve, put-held, held-at, put-six}
-use Rattle.site.specs.declared.Held.{Held}
-use Rattle.site.specs.declared.Three.{Three}
+use Rattle.messages.specs.declared.Held.{Held}
+use Rattle.messages.specs.declared.Three.{Three}
 use Rattle.engine.specs.declared.Pos.{Pos}
 
 pub record St : Type 0 where

@@ -5,7 +5,7 @@ ghost use Prim.Native.Nat.{ℕ, _+_, _*_, _<_, _≤_};
 ghost use lib.ListN.{length, getD};
 ghost use Rattle.sharing.specs.Circuit.{dealing, ands};
 ghost use Rattle.scope.specs.File.{circuit, gate-of, owner-at};
-ghost use Rattle.checks.specs.Mirror.{Checked};
+ghost use Rattle.circuit.specs.Checked.{Checked};
 ghost use Rattle.engine.specs.Mirror.{st, next-pos, and-on, gate-on, Lower, Room, up-to, gates-on, own-place, in-pos, input-on, inputs-on, InRoom};
 use circuit::Gate;
 use circuit::Owner;
@@ -108,7 +108,7 @@ fn gate_step(
 {
     let n = c.inputs + c.gates;
     let w = c.inputs + k;
-    let r = circuit::gate_with(file, c, k);
+    let r = reader::gate_with(file, c, k);
     let Gate::Is(kind, a, b) = r else {
         return pos;
     };
@@ -214,9 +214,9 @@ fn input_step(
     let at = pos.at;
     let z = next_input(owner, pos);
     let t = own_place(owner, pos);
-    let k = site::deal(tapes, t, v);
+    let k = messages::deal(tapes, t, v);
     let g = steps::deliver4(line, room, at, k);
-    let h = site::in_pairs(owner, k, g);
+    let h = messages::in_pairs(owner, k, g);
     steps::put_held(store, n, w, h);
     z
 }
@@ -241,7 +241,7 @@ fn input_at(
 {
     let n = c.inputs + c.gates;
     let v = xs[k];
-    let r = circuit::owner_with(file, c, k);
+    let r = reader::owner_with(file, c, k);
     let Owner::Is(owner) = r else {
         return pos;
     };

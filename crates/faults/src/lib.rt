@@ -1,28 +1,10 @@
-// One test each: what refusals 4, 5, 6, 10, 11 and 14 and "a byte above 1" ask of one owner, gate, output, size, site, job header or byte; and what
-// is counted of one gate.
+// One test each, on numbers and bytes: what refusals 5, 10, 11 and 14 and "a byte above 1" ask of a gate's numbers, a size, a site, a job header or a byte;
+// and what is counted of one gate.
 ghost use mathlib.Core.Path.{_≡_};
-ghost use mathlib.Core.Bool.{cond};
-ghost use Prim.Native.Nat.{ℕ, _+_, _*_, _<_, _≤_};
+ghost use Prim.Native.Nat.{_<_, _≤_};
 ghost use lib.ListN.{length};
 ghost use Rattle.scope.specs.Checks.{one-to-three};
-ghost use Rattle.header.specs.Mirror.{Opened};
-ghost use Rattle.faults.specs.Mirror.{bad-owner, bad-kind, bad-gate, bad-output, above, wrong-size, job-place, deals, site-no};
-use circuit::Gate;
-use circuit::Output;
-use circuit::Owner;
-use header::Counts;
-
-// 4: an owner not 1 to 3.
-pub fn owner_bad(file: &[u8], c: Counts, k: usize) -> bool
-    requires { ⌜ Opened (now file) c × (k < c .inputs) ⌝ }
-    ensures { λ r. ⌜ r ≡ bad-owner (now (file .entry)) k ⌝ }
-{
-    let a = circuit::owner_with(file, c, k);
-    let Owner::Is(o) = a else {
-        return true;
-    };
-    !((1 <= o) & (o <= 3))
-}
+ghost use Rattle.faults.specs.Mirror.{bad-kind, above, wrong-size, job-place, deals, site-no};
 
 // 5: unknown kind, operand not a lower wire, or NOT with second not 0.
 pub fn kind_bad(kind: u16, a: u16, b: u16, w: usize) -> bool
@@ -32,31 +14,6 @@ pub fn kind_bad(kind: u16, a: u16, b: u16, w: usize) -> bool
         & (kind <= 4)
         & ((a as usize) < w)
         & (((kind == 3) & (b == 0)) | ((kind != 3) & ((b as usize) < w))))
-}
-
-pub fn gate_bad(file: &[u8], c: Counts, k: usize) -> bool
-    requires { ⌜ Opened (now file) c × (k < c .gates) ⌝ }
-    ensures { λ r. ⌜ r ≡ bad-gate (now (file .entry)) (c .inputs) k ⌝ }
-{
-    let a = circuit::gate_with(file, c, k);
-    let Gate::Is(kind, x, y) = a else {
-        return true;
-    };
-    let w = c.inputs + k;
-    kind_bad(kind, x, y, w)
-}
-
-// 6: output wire not below W.
-pub fn output_bad(file: &[u8], c: Counts, k: usize) -> bool
-    requires { ⌜ Opened (now file) c × (k < c .outputs) ⌝ }
-    ensures { λ r. ⌜ r ≡ bad-output (now (file .entry)) (c .inputs) (c .gates) k ⌝ }
-{
-    let a = circuit::output_with(file, c, k);
-    let Output::Is(x) = a else {
-        return true;
-    };
-    let w = c.inputs + c.gates;
-    !((x as usize) < w)
 }
 
 // 7, 8, 9, 12: a byte above 1.

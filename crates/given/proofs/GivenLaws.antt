@@ -15,7 +15,7 @@ use Rattle.scope.specs.File.{circuit}
 use Rattle.scope.specs.Checks.{Given, bits-row, tapes-want, row, refusal-table, fault, accepted, refuses, verdict}
 use Rattle.scope.proofs.Refusals.{accepted-passes, verdict-skips, verdict-stays, row-refuses, row-passes}
 use Rattle.header.specs.declared.Counts.{Counts}
-use Rattle.header.specs.Mirror.{Opened}
+use Rattle.header.specs.Opened.{Opened}
 use Rattle.given.specs.declared.Fault.{Fault}
 use Rattle.given.specs.Mirror.{counts-of, slices, found}
 

@@ -1,12 +1,12 @@
-// Checks 7 and 8 on an opened circuit: what run, view, re-taping and listing are all given.
+// Checks 7 to 10 on an opened circuit: 7 and 8 are what run, view, re-taping and listing are all given, 9 and 10 the run's own.
 ghost use mathlib.Core.Path.{_≡_};
 ghost use mathlib.Core.List.{[], _∷_};
-ghost use Prim.Native.Nat.{ℕ, _≤_};
+ghost use Prim.Native.Nat.{_≤_};
 ghost use Rattle.sharing.specs.Circuit.{ands};
 ghost use Rattle.scope.specs.File.{circuit};
 ghost use Rattle.scope.specs.Checks.{verdict};
-ghost use Rattle.header.specs.Mirror.{Opened};
-ghost use Rattle.given.specs.Mirror.{slices, found};
+ghost use Rattle.header.specs.Opened.{Opened};
+ghost use Rattle.given.specs.Mirror.{slices, run-given, found};
 use header::Counts;
 
 // A refusal's number and place, 0 and 0 for none.
@@ -21,18 +21,60 @@ pub fn slices_fault(file: &[u8], c: Counts, a: usize, xs: &[u8], tapes: &[u8]) -
     ensures { λ r. ⌜ found r ≡ verdict (slices (now (file .entry)) (now (xs .entry)) (now (tapes .entry))) (7 ∷ 8 ∷ []) ⌝ }
 {
     let want = 2 * c.inputs + 6 * a;
-    let x = checks::bits_fault(xs, c.inputs);
+    let x = slices::bits_fault(xs, c.inputs);
     if x <= c.inputs {
         return Fault {
             number: 7,
             place: x,
         };
     }
-    let t = checks::bits_fault(tapes, want);
+    let t = slices::bits_fault(tapes, want);
     if t <= want {
         return Fault {
             number: 8,
             place: t,
+        };
+    }
+    Fault {
+        number: 0,
+        place: 0,
+    }
+}
+
+// 7 to 10 on an opened circuit of a AND and OR gates: slices, then the lengths of the three buffers.
+pub fn given_fault(
+    file: &[u8],
+    c: Counts,
+    a: usize,
+    xs: &[u8],
+    tapes: &[u8],
+    line: &[u8],
+    outs: usize,
+    room: usize,
+    store: usize,
+) -> Fault
+    requires { ⌜ Opened (now file) c × (a ≡ ands (circuit (now file) .gate) (c .gates)) × (a ≤ c .gates) ⌝ }
+    ensures { λ r. ⌜ found r ≡ verdict (run-given (now (file .entry)) (now (xs .entry)) (now (tapes .entry)) (now (line .entry)) outs room store) (7 ∷ 8 ∷ 9 ∷ 10 ∷ []) ⌝ }
+{
+    let f = slices_fault(file, c, a, xs, tapes);
+    if f.number != 0 {
+        return f;
+    }
+    let want_line = 4 * c.inputs + 12 * a + 6 * c.outputs;
+    let l = slices::bits_fault(line, want_line);
+    if l <= want_line {
+        return Fault {
+            number: 9,
+            place: l,
+        };
+    }
+    let sizes = [outs, room, store];
+    let wants = [3 * c.outputs, want_line, 6 * (c.inputs + c.gates)];
+    let b = slices::first_size(&sizes, &wants);
+    if b < 3 {
+        return Fault {
+            number: 10,
+            place: b,
         };
     }
     Fault {

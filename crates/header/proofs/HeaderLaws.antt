@@ -11,7 +11,7 @@ use native.Mathlib.Omega.{arith}
 use lib.ListN.{length}
 use lib.Dec.{leb, eqb}
 use Rattle.scope.specs.File.{le32, inputs-of, gates-of, outputs-of, size}
-use Rattle.scope.specs.Checks.{Given, row, refusal-table, Verdict, accepted, refuses, verdict}
+use Rattle.scope.specs.Checks.{Given, row, refusal-table, Verdict, refuses, verdict}
 use Rattle.scope.proofs.Places.{Rising, refuse-at, place-verdict}
 use Rattle.header.specs.declared.Counts.{Counts}
 use Rattle.header.specs.declared.Header.{Header}

@@ -10,7 +10,7 @@ use mathlib.Core.List.{List, [], _∷_}
 use Prim.Native.Nat.{ℕ}
 use lib.Dec.{eqb}
 use Rattle.scope.specs.Answer.{Answer, good, abort, refused, After}
-use Rattle.scope.specs.Checks.{Verdict, accepted, refuses, verdict}
+use Rattle.scope.specs.Checks.{refuses, verdict}
 use Rattle.scope.specs.Refusal.{stands-in, those-of}
 use Rattle.scope.specs.Calls.{Call, Open, given-of, concerns, order, answers, when-good, when-refused, lent-before, lent-at-13, returned-refused, does}
 use Rattle.scope.proofs.CallLaws.{does-good, does-refused}
@@ -18,7 +18,8 @@ use Rattle.header.specs.declared.Counts.{Counts}
 use Rattle.header.specs.declared.Header.{Header}
 use Rattle.header.specs.declared.Header.the-variants.{Good as HeaderGood, Refused as HeaderRefused}
 use Rattle.header.specs.Answers.{header-answer}
-use Rattle.header.specs.Mirror.{header-of, Opened, IsOpened}
+use Rattle.header.specs.Mirror.{header-of}
+use Rattle.header.specs.Opened.{Opened, IsOpened}
 use Rattle.header.proofs.HeaderLaws.{header-refused, header-good}
 
 abbrev refuses-it : Answer → Bool

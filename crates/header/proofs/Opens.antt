@@ -1,7 +1,7 @@
 -- What a good header leaves.
 --     opened-of     the fields of a header that was judged good, as Opened has them
 -- Assumes nothing.
-use mathlib.Core.Path.{_≡_, sym, _∙_}
+use mathlib.Core.Path.{_≡_, _∙_}
 use mathlib.Core.List.{List}
 use Prim.Native.Nat.{ℕ}
 use native.Mathlib.Omega.{arith}
@@ -9,7 +9,8 @@ use lib.ListN.{length}
 use Rattle.scope.specs.File.{inputs-of, gates-of, outputs-of}
 use Rattle.header.specs.declared.Header.{Header}
 use Rattle.header.specs.declared.Header.the-variants.{Good, Refused}
-use Rattle.header.specs.Mirror.{Fine, Opened, IsOpened}
+use Rattle.header.specs.Mirror.{Fine}
+use Rattle.header.specs.Opened.{IsOpened}
 
 pub opened-of : (h : Header) (s : List ℕ) (i g o : ℕ) → i ≡ inputs-of s → g ≡ gates-of s → o ≡ outputs-of s → Fine h (length s) i g o → IsOpened h s
 opened-of (Good c) s i g o ei eg eo f =

@@ -1,8 +1,6 @@
 -- 01's number and values for each case of the header's answer. Promises go through this.
-use mathlib.Core.List.{List, [], _∷_}
-use Prim.Native.Nat.{ℕ}
+use mathlib.Core.List.{[], _∷_}
 use Rattle.scope.specs.Answer.{Answer, good, refused}
-use Rattle.header.specs.declared.Counts.{Counts}
 use Rattle.header.specs.declared.Header.{Header}
 use Rattle.header.specs.declared.Header.the-variants.{Good as HeaderGood, Refused as HeaderRefused}
 

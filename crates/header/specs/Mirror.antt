@@ -1,15 +1,14 @@
 -- What the header's inner functions compute, test by test in the code's order. No public contract cites these: laws in proofs/ tie them to
 -- the calls of scope.
---     judged, header-of      the header's answer
---     Opened                 what checks 1 to 3 leave for whoever reads by the counts
+--     fields-judged, judged, header-of      the header's answer, from check 3 on, from 2 on, whole
+--     Fine                                  what a good one says of the numbers it was made of
 use mathlib.Core.Path.{_≡_}
 use mathlib.Core.Bool.{cond}
 use mathlib.Core.List.{List}
 use Prim.Native.Nat.{ℕ, _+_, _*_, _≤_}
 use lib.ListN.{length}
 use lib.Dec.{leb, eqb}
-use Rattle.scope.specs.File.{le32, inputs-of, gates-of, outputs-of}
-use Rattle.header.specs.declared.Counts.{Counts}
+use Rattle.scope.specs.File.{le32}
 use Rattle.header.specs.declared.Header.{Header}
 use Rattle.header.specs.declared.Header.the-variants.{Good as HeaderGood, Refused as HeaderRefused}
 
@@ -50,16 +49,3 @@ abbrev pub Fine : Header → ℕ → ℕ → ℕ → ℕ → Type 0
 Fine (HeaderGood c) len i g o =
     (c .inputs ≡ i) × (c .gates ≡ g) × (c .outputs ≡ o) × (i ≤ 1024) × (g ≤ 3072) × (o ≤ 256) × (len ≡ 32 + i + 6 * g + 2 * o)
 Fine (HeaderRefused n p) len i g o = Unit {0}
-
-pub record Opened (s : List ℕ) (c : Counts) : Type 0 where
-  pub ins-are : c .inputs ≡ inputs-of s
-  pub gates-are : c .gates ≡ gates-of s
-  pub outs-are : c .outputs ≡ outputs-of s
-  pub few-inputs : c .inputs ≤ 1024
-  pub few-gates : c .gates ≤ 3072
-  pub few-outputs : c .outputs ≤ 256
-  pub as-long : length s ≡ 32 + c .inputs + 6 * c .gates + 2 * c .outputs
-
-abbrev pub IsOpened : Header → List ℕ → Type 0
-IsOpened (HeaderGood c) s = Opened s c
-IsOpened (HeaderRefused n p) s = Unit {0}

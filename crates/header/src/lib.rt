@@ -1,10 +1,10 @@
 // The circuit file's header, read from the caller's slice: checks 1 to 3.
 ghost use mathlib.Core.Path.{_≡_};
-ghost use Prim.Native.Nat.{ℕ, _+_, _*_, _<_, _≤_};
-ghost use lib.ListN.{length};
+ghost use Prim.Native.Nat.{_+_, _*_, _<_, _≤_};
 ghost use Rattle.scope.specs.Calls.{Open, answers, does};
 ghost use Rattle.header.specs.Answers.{header-answer};
-ghost use Rattle.header.specs.Mirror.{fields-judged, judged, header-of, Fine, IsOpened};
+ghost use Rattle.header.specs.Mirror.{fields-judged, judged, header-of, Fine};
+ghost use Rattle.header.specs.Opened.{IsOpened};
 
 // The counts of a file whose header is good.
 pub struct Counts {

@@ -18,9 +18,10 @@ use Rattle.sharing.specs.Circuit.{AND, OR}
 use Rattle.sharing.specs.Published.{Deal, deal}
 use Rattle.sharing.specs.Steps.{Pair, Wire, no-wire, later, add-pair, add-wire, flip, local, deals, delivered, delivered3, mix, gate-wire, gate-delivered}
 use Rattle.sharing.specs.Store.{side, fill}
-use Rattle.site.specs.Mirror.{pair-at, put-at, add-at, flip-at, local-at, deal-at, on-line, take-at, twelve}
+use Rattle.site.specs.Mirror.{pair-at, put-at, add-at, flip-at, local-at, take-at}
+use Rattle.messages.specs.Mirror.{deal-at, on-line, twelve}
 use Rattle.steps.specs.Mirror.{on-lines, put-four, put-twelve, add-gate, not-gate, sends, takes}
-use Rattle.site.specs.declared.Twelve.{Twelve}
+use Rattle.messages.specs.declared.Twelve.{Twelve}
 use Rattle.link.specs.Link.{at-site, stored, Cut, Steps, sent-of, sent3, flips}
 use Rattle.link.proofs.FillLaws.{fill-four}
 use Rattle.link.proofs.PartLaws.{pair-eq, pair-read, pair-put, none-held, read-first, read-second, read-third, on-sites}

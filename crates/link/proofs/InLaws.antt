@@ -13,9 +13,9 @@ use Rattle.sharing.specs.Sites.{s1, s2, s3, Trio}
 use Rattle.sharing.specs.Published.{Deal}
 use Rattle.sharing.specs.Steps.{Wire, in-wire}
 use Rattle.scope.specs.File.{site-of}
-use Rattle.site.specs.Mirror.{on-line, in-pairs}
+use Rattle.messages.specs.Mirror.{on-line, in-pairs}
 use Rattle.steps.specs.Mirror.{put-held}
-use Rattle.site.specs.declared.Held.{Held}
+use Rattle.messages.specs.declared.Held.{Held}
 use Rattle.link.specs.Link.{stored, Cut, sent-of, held-of}
 use Rattle.link.proofs.PartLaws.{on-sites}
 use Rattle.link.proofs.GateLaws.{put-step}

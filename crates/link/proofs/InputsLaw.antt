@@ -21,9 +21,9 @@ use Rattle.sharing.specs.Tapes.{read}
 use Rattle.sharing.specs.Line.{at-input, errors}
 use Rattle.sharing.specs.Store.{fill}
 use Rattle.scope.specs.File.{site-of}
-use Rattle.site.specs.Mirror.{deal-at, on-line, in-pairs}
+use Rattle.messages.specs.Mirror.{deal-at, on-line, in-pairs}
 use Rattle.steps.specs.Mirror.{put-four, put-held}
-use Rattle.site.specs.declared.Four.{Four}
+use Rattle.messages.specs.declared.Four.{Four}
 use Rattle.engine.specs.declared.Pos.{Pos}
 use Rattle.engine.specs.Mirror.{St, st, own-place, in-pos, input-on, up-to}
 use Rattle.link.specs.Link.{stored, cut3, Cut, sent-of}

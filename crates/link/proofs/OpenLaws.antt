@@ -11,7 +11,8 @@ use Rattle.sharing.specs.Ops.{Ops}
 use Rattle.sharing.specs.Sites.{s1, s2, s3, Trio}
 use Rattle.sharing.specs.Steps.{Wire, no-wire, six, copies, objecting, opened}
 use Rattle.sharing.specs.Store.{fill}
-use Rattle.site.specs.Mirror.{pair-at, three, held, on-line-six, objects-of, opened-of}
+use Rattle.site.specs.Mirror.{pair-at}
+use Rattle.messages.specs.Mirror.{three, held, on-line-six, objects-of, opened-of}
 use Rattle.steps.specs.Mirror.{held-at, put-six}
 use Rattle.link.specs.Link.{at-site, stored, Cut, held-of}
 use Rattle.link.proofs.FillLaws.{fill-six}

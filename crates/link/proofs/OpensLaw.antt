@@ -21,10 +21,10 @@ use Rattle.sharing.specs.Store.{fill, store}
 use Rattle.sharing.proofs.RunLaws.{after-length, sent-length, sent-at}
 use Rattle.sharing.proofs.StoreLaws.{store-length, fill-read}
 use Rattle.scope.specs.File.{circuit}
-use Rattle.site.specs.Mirror.{three, on-line-six, objects-of, opened-of}
+use Rattle.messages.specs.Mirror.{three, on-line-six, objects-of, opened-of}
 use Rattle.steps.specs.Mirror.{held-at, put-six}
-use Rattle.site.specs.declared.Held.{Held}
-use Rattle.site.specs.declared.Three.{Three}
+use Rattle.messages.specs.declared.Held.{Held}
+use Rattle.messages.specs.declared.Three.{Three}
 use Rattle.engine.specs.Mirror.{up-to, opening, objects-on, open-on, opens-on, put-three, hand-on, hands-on}
 use Rattle.link.specs.Link.{cut3, held-of}
 use Rattle.link.proofs.FillLaws.{fill-three}

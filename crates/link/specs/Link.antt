@@ -15,10 +15,10 @@ use Rattle.sharing.specs.Sites.{Site, s1, s2, s3, Trio, of}
 use Rattle.sharing.specs.Published.{Deal}
 use Rattle.sharing.specs.Steps.{Pair, Wire, add-pair}
 use Rattle.sharing.specs.Store.{side, fill}
-use Rattle.site.specs.Mirror.{four, twelve, held}
-use Rattle.site.specs.declared.Four.{Four}
-use Rattle.site.specs.declared.Twelve.{Twelve}
-use Rattle.site.specs.declared.Held.{Held}
+use Rattle.messages.specs.Mirror.{four, twelve, held}
+use Rattle.messages.specs.declared.Four.{Four}
+use Rattle.messages.specs.declared.Twelve.{Twelve}
+use Rattle.messages.specs.declared.Held.{Held}
 
 abbrev pub at-site : Site → Wire → Pair
 at-site s x = of x s

@@ -46,9 +46,11 @@ use Rattle.header.specs.declared.Counts.{Counts}
 use Rattle.header.specs.declared.Header.{Header}
 use Rattle.header.specs.declared.Header.the-variants.{Good as HeaderGood, Refused as HeaderRefused}
 use Rattle.header.specs.Answers.{header-answer}
-use Rattle.checks.specs.Mirror.{Checked, job-fault-of}
+use Rattle.circuit.specs.Checked.{Checked}
+use Rattle.slices.specs.Mirror.{job-fault-of}
 use Rattle.given.specs.declared.Fault.{Fault}
-use Rattle.checks.proofs.FrontLaws.{one-to-six, circuit-refuses, circuit-passes, both}
+use Rattle.checks.proofs.FrontLaws.{one-to-six, circuit-refuses, circuit-passes}
+use Rattle.circuit.proofs.CheckedLaws.{both}
 use Rattle.given.specs.Mirror.{slices, found}
 use Rattle.given.proofs.GivenLaws.{found-refuses, nothing, tapes-are, ands-are}
 use Rattle.link.proofs.OpensLaw.{outputs-length}

@@ -19,7 +19,7 @@ use Rattle.scope.specs.Statements.{Bits}
 use Rattle.header.specs.declared.Counts.{Counts}
 use Rattle.header.specs.declared.Header.{Header}
 use Rattle.header.specs.declared.Header.the-variants.{Good as HeaderGood, Refused as HeaderRefused}
-use Rattle.checks.specs.Mirror.{Checked}
+use Rattle.circuit.specs.Checked.{Checked}
 use Rattle.given.specs.Mirror.{slices}
 
 pub record Fit (f : List ℕ) (c : Counts) (a : ℕ) (x t : List ℕ) : Type 0 where

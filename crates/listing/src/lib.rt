@@ -131,7 +131,7 @@ fn list(file: &[u8], xs: &[u8], tapes: &[u8], room: &mut [u8]) -> Listed
     let Header::Good(c) = h else {
         return refuse_header(room, h);
     };
-    let a = checks::count_ands(file, c);
+    let a = tally::count_ands(file, c);
     let f = given::slices_fault(file, c, a, xs, tapes);
     if f.number != 0 {
         return refuse(room, f.number, f.place);
@@ -154,7 +154,7 @@ pub fn listing(job: &[u8], room: &mut [u8; 2624]) -> Listed
     ensures { λ r. ⌜ listed-after r (now (room .exit)) ≡ does (Listing (now (job .entry))) ⌝ }
     ensures { λ r. ⌜ Rest r (now (room .entry)) (now (room .exit)) ⌝ }
 {
-    let p = checks::job_fault(job);
+    let p = slices::job_fault(job);
     if p < 13 {
         return refuse(room, 14, p);
     }

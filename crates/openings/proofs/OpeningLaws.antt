@@ -20,16 +20,16 @@ use Rattle.sharing.specs.First.{first}
 use Rattle.sharing.proofs.FirstLaws.{Clear, found, passed, ended}
 use Rattle.scope.specs.File.{circuit, output-at}
 use Rattle.header.specs.declared.Counts.{Counts}
-use Rattle.header.specs.Mirror.{Opened}
+use Rattle.header.specs.Opened.{Opened}
 use Rattle.circuit.specs.declared.Output.{Output as Read}
 use Rattle.circuit.specs.declared.Output.the-variants.{Is as OutputIs}
 use Rattle.circuit.specs.Mirror.{output-by}
 use Rattle.circuit.proofs.ReaderLaws.{output-some}
-use Rattle.checks.specs.Mirror.{Checked}
-use Rattle.site.specs.Mirror.{line-at, on-line-six, objects-of, opened-of}
+use Rattle.circuit.specs.Checked.{Checked}
+use Rattle.messages.specs.Mirror.{line-at, on-line-six, objects-of, opened-of}
 use Rattle.steps.specs.Mirror.{held-at, put-six}
-use Rattle.site.specs.declared.Held.{Held}
-use Rattle.site.specs.declared.Three.{Three}
+use Rattle.messages.specs.declared.Held.{Held}
+use Rattle.messages.specs.declared.Three.{Three}
 use Rattle.engine.specs.Mirror.{up-to, opening, objects-on, open-on, opens-on, put-three, hand-on, hands-on}
 
 -- the wire that was read is the circuit's

@@ -5,11 +5,11 @@ ghost use Prim.Native.Nat.{ℕ, suc, _+_, _*_, _<_, _≤_, min};
 ghost use lib.ListN.{length};
 ghost use lib.Dec.{eqb, ltb};
 ghost use Rattle.sharing.specs.First.{first};
-ghost use Rattle.checks.specs.Mirror.{Checked};
+ghost use Rattle.circuit.specs.Checked.{Checked};
 ghost use Rattle.engine.specs.Mirror.{objects-on, open-on, opens-on, put-three, hand-on, hands-on};
 use circuit::Output;
 use header::Counts;
-use site::Three;
+use messages::Three;
 
 // Where the run stops: the first output at which a site objects, with the sites that do; the number of outputs and 0 where none does.
 pub struct Stop {
@@ -34,13 +34,13 @@ fn open_step(
     ensures { λ _. ⌜ now (room .exit) ≡ open-on (now (file .entry)) (now (line .entry)) (now (store .entry)) (c .inputs + c .gates) at k (now (room .entry)) ⌝ }
 {
     let n = c.inputs + c.gates;
-    let r = circuit::output_with(file, c, k);
+    let r = reader::output_with(file, c, k);
     let Output::Is(w) = r else {
         return 0;
     };
     let h = steps::held_at(store, n, w as usize);
     let g = steps::deliver6(line, room, at + 6 * k, h);
-    site::objecting(g)
+    messages::objecting(g)
 }
 
 // The first pass: outputs in order, and nothing is opened after one at which a site objects.
@@ -88,13 +88,13 @@ fn hand_step(file: &[u8], c: Counts, store: &[u8], tr: &[u8], outs: &mut [u8], a
     ensures { λ _. ⌜ now (outs .exit) ≡ hand-on (now (file .entry)) (now (tr .entry)) (now (store .entry)) (c .inputs + c .gates) at k (now (outs .entry)) ⌝ }
 {
     let n = c.inputs + c.gates;
-    let r = circuit::output_with(file, c, k);
+    let r = reader::output_with(file, c, k);
     let Output::Is(w) = r else {
         return;
     };
     let h = steps::held_at(store, n, w as usize);
     let p = at + 6 * k;
-    let m = site::opened(h, tr[p + 3], tr[p], tr[p + 1]);
+    let m = messages::opened(h, tr[p + 3], tr[p], tr[p + 1]);
     put3(outs, 3 * k, m);
 }
 

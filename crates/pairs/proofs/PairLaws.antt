@@ -14,9 +14,10 @@ use Rattle.sharing.specs.Circuit.{Gate, XOR, AND, OR, NOT, dealing}
 use Rattle.sharing.specs.Steps.{local}
 use Rattle.sharing.specs.Retape.{next-product}
 use Rattle.scope.specs.File.{gate-of, site-of}
-use Rattle.site.specs.Mirror.{put-at, two, pair-of, two-at, deal-at}
-use Rattle.site.specs.declared.Two.{Two}
-use Rattle.site.specs.declared.Four.{Four}
+use Rattle.site.specs.Mirror.{put-at, two-at}
+use Rattle.messages.specs.Mirror.{two, pair-of, deal-at}
+use Rattle.messages.specs.declared.Two.{Two}
+use Rattle.messages.specs.declared.Four.{Four}
 use Rattle.steps.specs.Mirror.{lent, on-part}
 use Rattle.pairs.specs.declared.Places.{Places}
 use Rattle.pairs.specs.declared.Mixed.{Mixed}

@@ -16,8 +16,9 @@ use Rattle.sharing.specs.Sites.{Site, s1, s2, s3}
 use Rattle.sharing.specs.Circuit.{Gate, XOR, AND, OR, NOT}
 use Rattle.sharing.specs.Steps.{Pair, add-pair, local}
 use Rattle.sharing.specs.Retape.{rest, next-product}
-use Rattle.site.specs.Mirror.{pair-at, put-at, two, pair-of}
-use Rattle.site.specs.declared.Two.{Two}
+use Rattle.site.specs.Mirror.{pair-at, put-at}
+use Rattle.messages.specs.Mirror.{two, pair-of}
+use Rattle.messages.specs.declared.Two.{Two}
 use Rattle.steps.specs.Mirror.{lent, on-part}
 use Rattle.pairs.specs.declared.Places.{Places}
 use Rattle.pairs.specs.declared.Mixed.{Mixed}

@@ -8,14 +8,15 @@ ghost use Rattle.sharing.specs.Circuit.{dealing};
 ghost use Rattle.sharing.specs.Steps.{local};
 ghost use Rattle.sharing.specs.Retape.{next-product};
 ghost use Rattle.scope.specs.File.{circuit, gate-of, site-of};
-ghost use Rattle.site.specs.Mirror.{put-at, pair-of, two-at};
+ghost use Rattle.site.specs.Mirror.{put-at, two-at};
+ghost use Rattle.messages.specs.Mirror.{pair-of};
 ghost use Rattle.steps.specs.Mirror.{lent, on-part};
-ghost use Rattle.checks.specs.Mirror.{Checked};
+ghost use Rattle.circuit.specs.Checked.{Checked};
 ghost use Rattle.engine.specs.Mirror.{Lower};
 ghost use Rattle.pairs.specs.Mirror.{Fits, st, forward-of, flipped, mixed, put-two, and-on, xor-on, not-on, gate-on};
 use circuit::Gate;
 use header::Counts;
-use site::Two;
+use messages::Two;
 
 // The running places on three tapes, as a site sees them: its own, the next site's, the one's before.
 pub struct Places {
@@ -115,8 +116,8 @@ fn mix(
 {
     let first = next_product(p, u, q, v);
     let second = next_product(p, y, q, z);
-    let k = site::deal(own, at.own, product(p, q));
-    let m = site::deal(next, at.next, first);
+    let k = messages::deal(own, at.own, product(p, q));
+    let m = messages::deal(next, at.next, first);
     let t = at.prev;
     let x = k.d ^ (m.b ^ prev[t]);
     let y = k.a ^ (m.d ^ prev[t + 1]);
@@ -243,7 +244,7 @@ pub fn gate_step(
 {
     let n = c.inputs + c.gates;
     let w = c.inputs + k;
-    let r = circuit::gate_with(file, c, k);
+    let r = reader::gate_with(file, c, k);
     let Gate::Is(kind, a, b) = r else {
         return at;
     };

@@ -25,7 +25,7 @@ use Rattle.header.specs.declared.Counts.{Counts}
 use Rattle.header.specs.declared.Header.{Header}
 use Rattle.header.specs.declared.Header.the-variants.{Good as HeaderGood, Refused as HeaderRefused}
 use Rattle.header.specs.Answers.{header-answer}
-use Rattle.header.specs.Mirror.{Opened}
+use Rattle.header.specs.Opened.{Opened}
 use Rattle.checks.proofs.FrontLaws.{one-to-six, circuit-refuses, circuit-passes}
 use Rattle.plain.specs.declared.Valued.{Valued}
 use Rattle.plain.specs.declared.Valued.the-variants.{Good, Refused}

@@ -26,8 +26,8 @@ use Rattle.circuit.specs.declared.Gate.{Gate}
 use Rattle.circuit.specs.declared.Gate.the-variants.{Is as GateIs}
 use Rattle.circuit.specs.Mirror.{gate-by}
 use Rattle.circuit.proofs.ReaderLaws.{gate-some}
-use Rattle.checks.specs.Mirror.{Checked}
-use Rattle.checks.proofs.FrontLaws.{operands-lower}
+use Rattle.circuit.specs.Checked.{Checked}
+use Rattle.circuit.proofs.CheckedLaws.{operands-lower}
 use Rattle.plain.specs.Mirror.{kind-value, inputs-on, gate-on, gates-on}
 
 byte-either : (a b : Bool) → byte (a || b) ≡ bitOr (byte a) (byte b)

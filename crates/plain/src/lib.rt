@@ -5,7 +5,7 @@ ghost use lib.ListN.{length, getD, set};
 ghost use Rattle.scope.specs.File.{circuit};
 ghost use Rattle.scope.specs.Plain.{bit, byte, plain};
 ghost use Rattle.scope.specs.Calls.{Plain, does};
-ghost use Rattle.checks.specs.Mirror.{Checked};
+ghost use Rattle.circuit.specs.Checked.{Checked};
 ghost use Rattle.plain.specs.Answers.{plain-after};
 ghost use Rattle.plain.specs.Mirror.{kind-value, inputs-on, gate-on, gates-on, refusal-of};
 use circuit::Gate;
@@ -60,7 +60,7 @@ fn gate_step(file: &[u8], c: Counts, values: &mut [u8], k: usize)
     ensures { λ _. ⌜ now (values .exit) ≡ gate-on (now (file .entry)) (c .inputs) k (now (values .entry)) ⌝ }
 {
     let w = c.inputs + k;
-    let r = circuit::gate_with(file, c, k);
+    let r = reader::gate_with(file, c, k);
     let Gate::Is(kind, a, b) = r else {
         return;
     };
@@ -125,7 +125,7 @@ pub fn plain_values(file: &[u8], inputs: &[u8], values: &mut [u8]) -> Valued
     let Header::Good(c) = h else {
         return refused(h);
     };
-    let x = checks::bits_fault(inputs, c.inputs);
+    let x = slices::bits_fault(inputs, c.inputs);
     if x <= c.inputs {
         return Valued::Refused(7, x);
     }

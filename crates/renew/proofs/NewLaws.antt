@@ -32,7 +32,7 @@ use Rattle.scope.specs.Calls.{at-wire, both-plain, work-room}
 use Rattle.scope.proofs.Limits.{ands-most}
 use Rattle.scope.proofs.RunCall.{bit-draws}
 use Rattle.header.specs.declared.Counts.{Counts}
-use Rattle.header.specs.Mirror.{Opened}
+use Rattle.header.specs.Opened.{Opened}
 use Rattle.steps.specs.Mirror.{lent, on-part}
 use Rattle.link.proofs.PartLaws.{lent-middle, on-middle}
 use Rattle.walk.specs.Mirror.{around, Lengths, Walked}

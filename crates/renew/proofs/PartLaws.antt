@@ -18,7 +18,7 @@ use Rattle.scope.specs.Plain.{plain}
 use Rattle.scope.specs.Calls.{both-plain}
 use Rattle.scope.proofs.PlainLaws.{plain-length}
 use Rattle.header.specs.declared.Counts.{Counts}
-use Rattle.header.specs.Mirror.{Opened}
+use Rattle.header.specs.Opened.{Opened}
 use Rattle.steps.specs.Mirror.{on-part}
 use Rattle.renew.specs.declared.Span.{Span}
 use Rattle.renew.specs.Mirror.{span-of}

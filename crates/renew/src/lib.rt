@@ -12,7 +12,7 @@ ghost use Rattle.scope.specs.File.{circuit, site-of};
 ghost use Rattle.scope.specs.Checks.{tapes-want};
 ghost use Rattle.scope.specs.Calls.{at-wire, both-plain, work-room};
 ghost use Rattle.scope.specs.Statements.{Bits};
-ghost use Rattle.checks.specs.Mirror.{Checked};
+ghost use Rattle.circuit.specs.Checked.{Checked};
 ghost use Rattle.renew.specs.Mirror.{span-of, span-in};
 use header::Counts;
 
@@ -139,8 +139,8 @@ pub fn renew(
     ensures { λ _. ⌜ now (fresh .exit) ≡ new-tapes bits (site-of site) (circuit (now (file .entry))) (at-wire (now (xs .entry))) (at-wire (now (ys .entry))) (now (tapes .entry)) ⌝ }
     ensures { λ _. ⌜ now (room .exit) ≡ work-room (circuit (now (file .entry))) (now (xs .entry)) (now (tapes .entry)) (now (ys .entry)) site ⌝ }
 {
-    let one = 2 * (checks::count_owned(file, c, 1) + a);
-    let two = 2 * (checks::count_owned(file, c, 2) + a);
+    let one = 2 * (tally::count_owned(file, c, 1) + a);
+    let two = 2 * (tally::count_owned(file, c, 2) + a);
     let all = tapes.len();
     let after = next_site(site);
     let before = next_site(after);

@@ -17,7 +17,7 @@ use Rattle.scope.specs.Checks.{Given, Row, one-to-three, tested, bits-row, row-
 use Rattle.scope.specs.Calls.{retape-wants}
 use Rattle.scope.proofs.Refusals.{row-refuses, row-passes}
 use Rattle.header.specs.declared.Counts.{Counts}
-use Rattle.header.specs.Mirror.{Opened}
+use Rattle.header.specs.Opened.{Opened}
 use Rattle.faults.specs.Mirror.{wrong-size}
 use Rattle.given.specs.declared.Fault.{Fault}
 use Rattle.given.specs.Mirror.{slices, found}

@@ -6,7 +6,7 @@ ghost use Rattle.sharing.specs.Circuit.{ands};
 ghost use Rattle.scope.specs.File.{circuit};
 ghost use Rattle.scope.specs.Checks.{verdict};
 ghost use Rattle.scope.specs.Calls.{Retape, does};
-ghost use Rattle.header.specs.Mirror.{Opened};
+ghost use Rattle.header.specs.Opened.{Opened};
 ghost use Rattle.given.specs.Mirror.{found};
 ghost use Rattle.retape.specs.Answers.{retape-after};
 ghost use Rattle.retape.specs.Mirror.{retape-given, refusal-of};
@@ -47,14 +47,14 @@ fn given_fault(
     }
     let sizes = [fresh, room];
     let wants = [2 * c.inputs + 6 * a, 4 * (c.inputs + c.gates)];
-    let b = checks::first_size(&sizes, &wants);
+    let b = slices::first_size(&sizes, &wants);
     if b < 2 {
         return Fault {
             number: 10,
             place: b,
         };
     }
-    let y = checks::bits_fault(ys, c.inputs);
+    let y = slices::bits_fault(ys, c.inputs);
     if y <= c.inputs {
         return Fault {
             number: 12,
@@ -94,7 +94,7 @@ pub fn retape(
     let Header::Good(c) = h else {
         return refused(h);
     };
-    let a = checks::count_ands(file, c);
+    let a = tally::count_ands(file, c);
     let f = given_fault(
         file,
         c,

@@ -5,16 +5,16 @@
 -- Assumes nothing.
 use mathlib.Core.Path.{_≡_, refl, sym, ap, _∙_, subst}
 use mathlib.Core.Logic.{⊎-elim}
-use mathlib.Core.Bool.{Bool, true, false, not, cond}
+use mathlib.Core.Bool.{Bool, not, cond}
 use mathlib.Core.List.{List, [], _∷_}
-use Prim.Native.Nat.{ℕ, zero, suc, _+_, _*_, _<_, _≤_, min}
+use Prim.Native.Nat.{ℕ, suc, _+_, _*_, _<_, _≤_, min}
 use native.Mathlib.Omega.{arith}
 use native.Mathlib.Nat.{eq-or-lt-of-le, le-of-eq}
 use lib.ListN.{length}
 use lib.Dec.{ltb, eqb}
-use borrow.Author.Tests.{lt-ltb, le-ltb}
+use borrow.Author.Tests.{lt-ltb}
 use Rattle.sharing.specs.Ops.{bits}
-use Rattle.sharing.specs.Circuit.{Circuit, Draws, Errors, wires, ands, all-ands}
+use Rattle.sharing.specs.Circuit.{Circuit, Draws, Errors, wires, all-ands}
 use Rattle.sharing.specs.First.{first}
 use Rattle.sharing.specs.Run.{after, gates-delivered, opens-delivered, objects, stop, made, transcript, outputs}
 use Rattle.sharing.specs.Tapes.{read}

@@ -4,19 +4,18 @@
 --     ready, accepted-run    nothing is refused: every length is right, and the call is the document's run
 --     run-one            two results that meet the statement are equal
 -- Assumes nothing.
-use mathlib.Core.Path.{_≡_, refl, sym, ap, ap₂, _∙_, subst}
+use mathlib.Core.Path.{_≡_, refl, sym, ap, ap₂, _∙_}
 use mathlib.Core.Bool.{Bool, true, false, cond}
 use mathlib.Core.List.{List, [], _∷_, _++_}
-use Prim.Native.Nat.{ℕ, zero, suc, _+_, _*_}
+use Prim.Native.Nat.{ℕ, _+_, _*_}
 use lib.ListN.{length, getD}
-use lib.Dec.{ltb, eqb}
+use lib.Dec.{eqb}
 use borrow.Author.Tests.{eq-eqb, ne-eqb}
-use Rattle.sharing.specs.Circuit.{wires}
 use Rattle.sharing.specs.Tapes.{read}
 use Rattle.sharing.specs.Line.{errors}
-use Rattle.scope.specs.File.{inputs-of, gates-of, outputs-of, circuit}
+use Rattle.scope.specs.File.{circuit}
 use Rattle.scope.specs.Answer.{Answer, good, abort, refused, After}
-use Rattle.scope.specs.Checks.{Given, row, refusal-table, fault, Verdict, accepted, refuses, verdict}
+use Rattle.scope.specs.Checks.{Given, accepted, refuses, verdict}
 use Rattle.scope.specs.Refusal.{stands-in, those-of}
 use Rattle.scope.specs.Calls.{Call, Check, Run, given-of, concerns, order, lent-before, lent-at-13, when-refused, returned-refused, answers, at-wire, ran, does, Accepts}
 use Rattle.scope.proofs.CallLaws.{does-refused, verdict-accepts}
@@ -26,14 +25,15 @@ use Rattle.header.specs.declared.Counts.{Counts}
 use Rattle.header.specs.declared.Header.{Header}
 use Rattle.header.specs.declared.Header.the-variants.{Good as HeaderGood, Refused as HeaderRefused}
 use Rattle.header.specs.Answers.{header-answer}
-use Rattle.checks.specs.Mirror.{Checked, IsChecked}
+use Rattle.circuit.specs.Checked.{Checked}
 use Rattle.given.specs.declared.Fault.{Fault}
 use Rattle.checks.proofs.FrontLaws.{one-to-six, circuit-refuses, circuit-passes}
 use Rattle.given.specs.Mirror.{found}
 use Rattle.run.specs.declared.Ran.{Ran}
 use Rattle.run.specs.declared.Ran.the-variants.{Good, Abort, Refused}
 use Rattle.run.specs.Answers.{run-answer, run-after}
-use Rattle.run.specs.Mirror.{run-given, refusal-of, Ready}
+use Rattle.given.specs.Mirror.{run-given}
+use Rattle.run.specs.Mirror.{refusal-of, Ready}
 
 same : {A : Type 0} (b : Bool) (x : A) → cond b x x ≡ x
 same true x = refl

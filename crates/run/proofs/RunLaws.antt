@@ -1,31 +1,19 @@
 -- What the proofs of a run cite.
---     slices-stop, fault-9, fault-10, no-fault    7 to 10, as the code goes through them
---     begins                         where the tapes begin
+--     inputs-ready, gates-ready      what the passes have room for
+--     shared                         what they leave in store and transcript
 -- Assumes nothing.
-use mathlib.Core.Path.{_≡_, refl, sym, ap, ap₂, _∙_, subst}
-use mathlib.Core.Bool.{Bool, true, false, not, cond}
-use mathlib.Core.List.{List, [], _∷_}
-use Prim.Native.Nat.{ℕ, zero, suc, _+_, _*_, _<_, _≤_}
+use mathlib.Core.Path.{_≡_, sym, ap, _∙_, subst}
+use mathlib.Core.List.{List}
+use Prim.Native.Nat.{ℕ, _+_, _*_, _≤_}
 use native.Mathlib.Omega.{arith}
-use lib.ListN.{length, getD}
-use lib.Dec.{ltb, eqb}
-use borrow.Author.Tests.{ne-eqb}
-use Rattle.sharing.specs.Sites.{Site, s1, s2, s3}
+use lib.ListN.{length}
+use Rattle.sharing.specs.Sites.{s1, s2, s3}
 use Rattle.sharing.specs.Circuit.{Circuit, wires, ands, all-ands, owned, all-owned}
-use Rattle.sharing.specs.First.{first}
 use Rattle.sharing.specs.Tapes.{tape-length}
-use Rattle.scope.specs.File.{inputs-of, gates-of, outputs-of, site-of, circuit}
-use Rattle.scope.specs.Checks.{Given, Row, bits-row, tapes-want, line-want, row-buffer, row, refusal-table, fault, Verdict, accepted, refuses, verdict}
-use Rattle.scope.specs.Calls.{run-wants}
-use Rattle.scope.proofs.Refusals.{row-refuses, row-passes}
+use Rattle.scope.specs.File.{inputs-of, gates-of, circuit}
 use Rattle.header.specs.declared.Counts.{Counts}
-use Rattle.header.specs.Mirror.{Opened}
-use Rattle.header.specs.declared.Header.{Header}
-use Rattle.header.specs.declared.Header.the-variants.{Good as HeaderGood}
-use Rattle.faults.specs.Mirror.{wrong-size}
-use Rattle.checks.specs.Mirror.{Checked, IsChecked}
 use Rattle.engine.specs.declared.Pos.{Pos}
-use Rattle.engine.specs.Mirror.{St, st, placed, Lower, Room, InRoom, inputs-on, gates-on}
+use Rattle.engine.specs.Mirror.{St, st, Room, InRoom, inputs-on, gates-on}
 use Rattle.engine.proofs.EngineLaws.{lower-of, in-moved, inputs-pos}
 use Rattle.link.specs.Loops.{place}
 use Rattle.link.proofs.WholeLaw.{whole-law}
@@ -38,87 +26,9 @@ use Rattle.sharing.proofs.TapeLaws.{tapes-length}
 use Rattle.scope.specs.Calls.{at-wire}
 use Rattle.scope.proofs.Limits.{ands-most}
 use Rattle.link.specs.Loops.{base, in-places, in-place}
-use Rattle.given.specs.declared.Fault.{Fault}
-use Rattle.given.specs.Mirror.{counts-of, slices, found}
-use Rattle.given.proofs.GivenLaws.{counts-are, nothing, ands-are, found-refuses, found-passes}
-use Rattle.run.specs.Mirror.{run-given, Ready}
-
--- 7 to 10 of a run
-module _ (f x t l : List ℕ) (o r s : ℕ) (c : Counts) (a : ℕ) (op : Opened f c) (ea : a ≡ ands (circuit f .gate) (c .gates)) where
-  abbrev g : Given
-  g = run-given f x t l o r s
-
-  pub line-is : 4 * c .inputs + 12 * a + 6 * c .outputs ≡ line-want (circuit f)
-  line-is = λ i. 4 * op .ins-are i + 12 * ands-are f x t c a op ea i + 6 * op .outs-are i
-
-  -- the row of the line, and the row of buffers
-  abbrev Bits9 : ℕ → Type 0
-  Bits9 i = i ≡ fault (bits-row l (4 * c .inputs + 12 * a + 6 * c .outputs))
-
-  row-9 : row g 9 ≡ bits-row l (4 * c .inputs + 12 * a + 6 * c .outputs)
-  unfolding row refusal-table
-  row-9 = λ i. bits-row l (sym line-is i)
-
-  abbrev sizes : List ℕ
-  sizes = o ∷ r ∷ s ∷ []
-
-  abbrev wants : List ℕ
-  wants = 3 * c .outputs ∷ (4 * c .inputs + 12 * a + 6 * c .outputs) ∷ 6 * (c .inputs + c .gates) ∷ []
-
-  wants-are : wants ≡ run-wants (circuit f)
-  wants-are = λ i. 3 * op .outs-are i ∷ line-is i ∷ 6 * (op .ins-are i + op .gates-are i) ∷ []
-
-  abbrev row-of : List ℕ → Row
-  row-of w = record { span = length w; bad = λ p. not (eqb (getD sizes p 0) (getD w p 0)) }
-
-  row-10 : row g 10 ≡ row-of wants
-  unfolding row refusal-table
-  row-10 = λ i. row-of (sym wants-are i)
-
-  abbrev Sized : ℕ → Type 0
-  Sized b = b ≡ first (wrong-size sizes wants) 3
-
-  sized : (b : ℕ) → Sized b → b ≡ fault (row-of wants)
-  unfolding fault wrong-size
-  sized b e = e
-
-  -- 7 and 8 ask for file, inputs and tapes alone
-  module _ (u : Fault) (v : found u ≡ verdict (slices f x t) (7 ∷ 8 ∷ [])) where
-    front : found u ≡ verdict g (7 ∷ 8 ∷ [])
-    unfolding verdict row refusal-table
-    front = v
-
-    pub slices-stop : (u .number ≡ 0 → ⊥) → found u ≡ verdict g (7 ∷ 8 ∷ 9 ∷ 10 ∷ [])
-    slices-stop n = ap (λ (b : Bool). cond b accepted (refuses (u .number) (u .place))) (ne-eqb (u .number) 0 n) ∙ found-refuses g (7 ∷ 8 ∷ []) (9 ∷ 10 ∷ []) u front n
-
-    module _ (z : u .number ≡ 0) where
-      past-8 : verdict g (9 ∷ 10 ∷ []) ≡ verdict g (7 ∷ 8 ∷ 9 ∷ 10 ∷ [])
-      past-8 = found-passes g (7 ∷ 8 ∷ []) (9 ∷ 10 ∷ []) u front z
-
-      pub fault-9 : (k : ℕ) → Bits9 k → k ≤ 4 * c .inputs + 12 * a + 6 * c .outputs → refuses 9 k ≡ verdict g (7 ∷ 8 ∷ 9 ∷ 10 ∷ [])
-      fault-9 k e h = row-refuses g 9 (10 ∷ []) _ k row-9 e (omega arith) ∙ past-8
-
-      module _ (k : ℕ) (ek : Bits9 k) (hk : 4 * c .inputs + 12 * a + 6 * c .outputs < k) where
-        past-9 : verdict g (10 ∷ []) ≡ verdict g (7 ∷ 8 ∷ 9 ∷ 10 ∷ [])
-        past-9 = row-passes g 9 (10 ∷ []) _ k row-9 ek (omega arith) ∙ past-8
-
-        pub fault-10 : (b : ℕ) → Sized b → b < 3 → refuses 10 b ≡ verdict g (7 ∷ 8 ∷ 9 ∷ 10 ∷ [])
-        fault-10 b e h = row-refuses g 10 [] _ b row-10 (sized b e) h ∙ past-9
-
-        pub no-fault : (b : ℕ) → Sized b → 3 ≤ b → accepted ≡ verdict g (7 ∷ 8 ∷ 9 ∷ 10 ∷ [])
-        no-fault b e h = nothing g ∙ row-passes g 10 [] _ b row-10 (sized b e) h ∙ past-9
-
--- where the tapes begin
-pub begins : (f : List ℕ) (c : Counts) (a p q : ℕ) → Opened f c → a ≡ ands (circuit f .gate) (c .gates)
-    → p ≡ owned (circuit f .owner) (site-of 1) (c .inputs) → q ≡ owned (circuit f .owner) (site-of 2) (c .inputs)
-    → placed 0 (2 * (p + a)) (2 * (p + a) + 2 * (q + a)) 0 ≡ in-place (circuit f) 0
-unfolding in-places base tape-length owned site-of
-begins f c a p q o ea ep eq =
-    let A : a ≡ all-ands (circuit f) = ea ∙ ap (ands (circuit f .gate)) (o .gates-are) in
-    let P : p ≡ all-owned (circuit f) s1 = ep ∙ ap (owned (circuit f .owner) s1) (o .ins-are) in
-    let Q : q ≡ all-owned (circuit f) s2 = eq ∙ ap (owned (circuit f .owner) s2) (o .ins-are) in
-    let z : (k : ℕ) → k ≡ k + 0 = λ k. omega arith in
-    (λ i. placed 0 (2 * (P i + A i)) (2 * (P i + A i) + 2 * (Q i + A i)) 0) ∙ (λ i. placed 0 (z (tape-length (circuit f) s1) i) (z (tape-length (circuit f) s1 + tape-length (circuit f) s2) i) 0)
+use Rattle.given.specs.Mirror.{counts-of}
+use Rattle.given.proofs.GivenLaws.{counts-are}
+use Rattle.run.specs.Mirror.{Ready}
 
 -- ---- what the passes have room for, at the counts that stand in the file
 module _ (f : List ℕ) (x t l o r s : ℕ) (d : Ready f (counts-of f) x t l o r s) where

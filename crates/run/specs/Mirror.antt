@@ -1,23 +1,17 @@
 -- What the inner functions of a run lean on and compute. No public contract cites these.
---     run-given        what a run is given, with the lengths of its buffers
 --     refusal-of       a circuit's refusal as a run's
 --     Ready            what the checks leave: every length
 use mathlib.Core.Path.{_≡_}
-use mathlib.Core.List.{List, [], _∷_}
+use mathlib.Core.List.{List}
 use Prim.Native.Nat.{ℕ, _+_, _*_}
 use Rattle.scope.specs.File.{circuit}
-use Rattle.scope.specs.Checks.{whole, Given, tapes-want, line-want}
-use Rattle.scope.specs.Calls.{run-wants}
+use Rattle.scope.specs.Checks.{tapes-want, line-want}
 use Rattle.header.specs.declared.Counts.{Counts}
-use Rattle.checks.specs.Mirror.{Checked}
+use Rattle.circuit.specs.Checked.{Checked}
 use Rattle.header.specs.declared.Header.{Header}
 use Rattle.header.specs.declared.Header.the-variants.{Good, Refused as HeaderRefused}
 use Rattle.run.specs.declared.Ran.{Ran}
 use Rattle.run.specs.declared.Ran.the-variants.{Refused}
-
-abbrev pub run-given : List ℕ → List ℕ → List ℕ → List ℕ → ℕ → ℕ → ℕ → Given
-run-given f x t l o r s =
-    record { file = f; inputs = x; tapes = t; line = l; second = []; site = 0; asked = whole; sizes = o ∷ r ∷ s ∷ []; wanted = run-wants (circuit f); job = [] }
 
 abbrev pub refusal-of : Header → Ran
 refusal-of (Good c) = Refused 0 0

@@ -1,7 +1,6 @@
 // The run: every check, then inputs and gates in one pass, openings judged, outputs handed over.
 ghost use mathlib.Core.Path.{_≡_};
-ghost use mathlib.Core.List.{[], _∷_};
-ghost use Prim.Native.Nat.{ℕ, _+_, _*_, _<_, _≤_};
+ghost use Prim.Native.Nat.{_+_, _*_, _<_, _≤_};
 ghost use lib.ListN.{length};
 ghost use Rattle.sharing.specs.Ops.{bits};
 ghost use Rattle.sharing.specs.Circuit.{ands, all-ands};
@@ -11,15 +10,11 @@ ghost use Rattle.sharing.specs.Line.{errors};
 ghost use Rattle.sharing.specs.Store.{fill};
 ghost use Rattle.sharing.specs.Store.{store as storing};
 ghost use Rattle.scope.specs.File.{circuit};
-ghost use Rattle.scope.specs.Checks.{verdict};
 ghost use Rattle.scope.specs.Calls.{at-wire, ran, Run, does};
-ghost use Rattle.header.specs.Mirror.{Opened};
 ghost use Rattle.link.specs.Loops.{in-place};
 ghost use Rattle.run.specs.Answers.{run-after};
-ghost use Rattle.given.specs.Mirror.{found};
-ghost use Rattle.run.specs.Mirror.{run-given, refusal-of, Ready};
+ghost use Rattle.run.specs.Mirror.{refusal-of, Ready};
 use engine::Pos;
-use given::Fault;
 use header::Counts;
 use header::Header;
 
@@ -28,64 +23,6 @@ pub enum Ran {
     Good,
     Abort(usize, usize),
     Refused(usize, usize),
-}
-
-// 7 to 10 on an opened circuit of a AND and OR gates: slices, then the lengths of the three buffers.
-fn given_fault(
-    file: &[u8],
-    c: Counts,
-    a: usize,
-    xs: &[u8],
-    tapes: &[u8],
-    line: &[u8],
-    outs: usize,
-    room: usize,
-    store: usize,
-) -> Fault
-    requires { ⌜ Opened (now file) c × (a ≡ ands (circuit (now file) .gate) (c .gates)) × (a ≤ c .gates) ⌝ }
-    ensures { λ r. ⌜ found r ≡ verdict (run-given (now (file .entry)) (now (xs .entry)) (now (tapes .entry)) (now (line .entry)) outs room store) (7 ∷ 8 ∷ 9 ∷ 10 ∷ []) ⌝ }
-{
-    let f = given::slices_fault(file, c, a, xs, tapes);
-    if f.number != 0 {
-        return f;
-    }
-    let want_line = 4 * c.inputs + 12 * a + 6 * c.outputs;
-    let l = checks::bits_fault(line, want_line);
-    if l <= want_line {
-        return Fault {
-            number: 9,
-            place: l,
-        };
-    }
-    let sizes = [outs, room, store];
-    let wants = [3 * c.outputs, want_line, 6 * (c.inputs + c.gates)];
-    let b = checks::first_size(&sizes, &wants);
-    if b < 3 {
-        return Fault {
-            number: 10,
-            place: b,
-        };
-    }
-    Fault {
-        number: 0,
-        place: 0,
-    }
-}
-
-// Where the three tapes begin: site 1's first. A view begins there too.
-pub fn begin(file: &[u8], c: Counts, a: usize) -> Pos
-    requires { ⌜ Opened (now file) c × (a ≡ ands (circuit (now file) .gate) (c .gates)) × (a ≤ c .gates) ⌝ }
-    ensures { λ r. ⌜ r ≡ in-place (circuit (now (file .entry))) 0 ⌝ }
-{
-    let o1 = checks::count_owned(file, c, 1);
-    let o2 = checks::count_owned(file, c, 2);
-    let t2 = 2 * (o1 + a);
-    Pos {
-        t1: 0,
-        t2,
-        t3: t2 + 2 * (o2 + a),
-        at: 0,
-    }
 }
 
 // Inputs and gates: the store of all wires, and the delivered bits so far. Gives the place where the openings begin.
@@ -128,7 +65,7 @@ pub fn run_checked(
     ensures { λ r. ⌜ run-after r (now (outs .exit)) (now (room .exit)) (now (store .exit)) ≡ ran (circuit (now (file .entry))) (at-wire (now (xs .entry))) (read (circuit (now (file .entry))) (now (tapes .entry))) (errors (circuit (now (file .entry))) (now (line .entry))) (now (outs .entry)) (now (room .entry)) ⌝ }
 {
     let k = outs.len();
-    let pos = begin(file, c, a);
+    let pos = start::begin(file, c, a);
     let at = shares(file, c, xs, tapes, line, store, room, k, pos);
     let s = openings::judge(file, c, line, store, room, at);
     if s.output < c.outputs {
@@ -165,8 +102,8 @@ pub fn run(
     let Header::Good(c) = h else {
         return refused(h);
     };
-    let a = checks::count_ands(file, c);
-    let f = given_fault(
+    let a = tally::count_ands(file, c);
+    let f = given::given_fault(
         file,
         c,
         a,

@@ -21,10 +21,10 @@ use Rattle.sharing.specs.Tapes.{read}
 use Rattle.sharing.specs.Store.{fill}
 use Rattle.sharing.proofs.Seen.{got, ins-got}
 use Rattle.scope.specs.File.{site-of}
-use Rattle.site.specs.Mirror.{two, four, deal-at, on-line, in-pairs}
+use Rattle.messages.specs.Mirror.{two, four, deal-at, on-line, in-pairs}
 use Rattle.steps.specs.Mirror.{put-held}
-use Rattle.site.specs.declared.Two.{Two}
-use Rattle.site.specs.declared.Four.{Four}
+use Rattle.messages.specs.declared.Two.{Two}
+use Rattle.messages.specs.declared.Four.{Four}
 use Rattle.engine.specs.declared.Pos.{Pos}
 use Rattle.engine.specs.Mirror.{St, st, own-place, in-pos}
 use Rattle.link.specs.Link.{stored, Cut, sent-of, held-of}

@@ -10,11 +10,11 @@ use Prim.Native.Nat.{ℕ, zero, suc, _+_, _*_, _≤_}
 use Rattle.sharing.specs.Ops.{bits}
 use Rattle.sharing.specs.Sites.{Site, s1, s2, s3}
 use Rattle.scope.specs.File.{site-of}
-use Rattle.site.specs.Mirror.{deal-at, in-pairs}
+use Rattle.messages.specs.Mirror.{deal-at, in-pairs}
 use Rattle.steps.specs.Mirror.{put-held}
-use Rattle.site.specs.declared.Two.{Two}
-use Rattle.site.specs.declared.Four.{Four}
-use Rattle.site.specs.declared.Held.{Held}
+use Rattle.messages.specs.declared.Two.{Two}
+use Rattle.messages.specs.declared.Four.{Four}
+use Rattle.messages.specs.declared.Held.{Held}
 use Rattle.engine.specs.declared.Pos.{Pos}
 use Rattle.engine.specs.Mirror.{St, st, own-place, in-pos}
 use Rattle.seen.specs.Mirror.{pair-of-site, put-two, see-two, past-two, with-at, input-seen}

@@ -21,13 +21,13 @@ use Rattle.sharing.proofs.Seen.{ins-got, gates-got}
 use Rattle.scope.specs.File.{circuit}
 use Rattle.scope.specs.Checks.{tapes-want}
 use Rattle.header.specs.declared.Counts.{Counts}
-use Rattle.checks.specs.Mirror.{Checked}
-use Rattle.site.specs.Mirror.{four, deal-at, in-pairs}
+use Rattle.circuit.specs.Checked.{Checked}
+use Rattle.messages.specs.Mirror.{four, deal-at, in-pairs}
 use Rattle.steps.specs.Mirror.{add-gate, not-gate, sends, takes, put-four, put-held}
-use Rattle.site.specs.declared.Two.{Two}
-use Rattle.site.specs.declared.Four.{Four}
-use Rattle.site.specs.declared.Twelve.{Twelve}
-use Rattle.site.specs.declared.Held.{Held}
+use Rattle.messages.specs.declared.Two.{Two}
+use Rattle.messages.specs.declared.Four.{Four}
+use Rattle.messages.specs.declared.Twelve.{Twelve}
+use Rattle.messages.specs.declared.Held.{Held}
 use Rattle.engine.specs.declared.Pos.{Pos}
 use Rattle.engine.specs.Mirror.{St, st, placed, own-place, in-pos, up-to}
 use Rattle.link.specs.Link.{stored, Cut}

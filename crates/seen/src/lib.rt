@@ -7,15 +7,15 @@ ghost use Rattle.sharing.specs.Sites.{is};
 ghost use Rattle.sharing.specs.Tapes.{read};
 ghost use Rattle.scope.specs.File.{circuit, owner-at, site-of};
 ghost use Rattle.scope.specs.Calls.{at-wire};
-ghost use Rattle.checks.specs.Mirror.{Checked};
+ghost use Rattle.circuit.specs.Checked.{Checked};
 ghost use Rattle.engine.specs.Mirror.{st, own-place};
 ghost use Rattle.link.specs.Link.{cut3};
 ghost use Rattle.seen.specs.Mirror.{pair-of-site, put-two, see-two, past-two, input-seen, ins-seen, start-seen, Seeing};
 use circuit::Owner;
 use engine::Pos;
 use header::Counts;
-use site::Held;
-use site::Two;
+use messages::Held;
+use messages::Two;
 
 // Of three pairs, the site's.
 pub fn pair_of_site(h: Held, site: usize) -> Two
@@ -72,8 +72,8 @@ fn input_step(
     let at = pos.at;
     let z = engine::next_input(owner, pos);
     let t = engine::own_place(owner, pos);
-    let k = site::deal(tapes, t, v);
-    let h = site::in_pairs(owner, k, k);
+    let k = messages::deal(tapes, t, v);
+    let h = messages::in_pairs(owner, k, k);
     steps::put_held(store, n, w, h);
     let p = pair_of_site(h, site);
     let e = see_two(got, at, own, p);
@@ -105,8 +105,8 @@ fn input_at(
 {
     let n = c.inputs + c.gates;
     let v = xs[k];
-    let own = checks::input_owned(file, c, site, k);
-    let r = circuit::owner_with(file, c, k);
+    let own = tally::input_owned(file, c, site, k);
+    let r = reader::owner_with(file, c, k);
     let Owner::Is(owner) = r else {
         return pos;
     };

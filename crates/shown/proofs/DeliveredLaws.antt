@@ -33,11 +33,11 @@ use Rattle.scope.specs.Calls.{at-wire}
 use Rattle.scope.proofs.RunCall.{bit-draws}
 use Rattle.scope.proofs.Limits.{ands-most}
 use Rattle.header.specs.declared.Counts.{Counts}
-use Rattle.checks.specs.Mirror.{Checked}
-use Rattle.site.specs.Mirror.{two}
+use Rattle.circuit.specs.Checked.{Checked}
+use Rattle.messages.specs.Mirror.{two}
 use Rattle.steps.specs.Mirror.{held-at}
-use Rattle.site.specs.declared.Two.{Two}
-use Rattle.site.specs.declared.Held.{Held}
+use Rattle.messages.specs.declared.Two.{Two}
+use Rattle.messages.specs.declared.Held.{Held}
 use Rattle.engine.specs.Mirror.{St, up-to}
 use Rattle.link.specs.Link.{cut3, held-of}
 use Rattle.link.proofs.FillLaws.{fill-two}

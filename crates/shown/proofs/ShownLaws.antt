@@ -23,10 +23,10 @@ use Rattle.sharing.proofs.ViewLaws.{own-many}
 use Rattle.scope.specs.File.{circuit}
 use Rattle.scope.specs.Calls.{at-wire}
 use Rattle.header.specs.declared.Counts.{Counts}
-use Rattle.header.specs.Mirror.{Opened}
+use Rattle.header.specs.Opened.{Opened}
 use Rattle.steps.specs.Mirror.{held-at}
-use Rattle.site.specs.declared.Two.{Two}
-use Rattle.site.specs.declared.Held.{Held}
+use Rattle.messages.specs.declared.Two.{Two}
+use Rattle.messages.specs.declared.Held.{Held}
 use Rattle.engine.proofs.EngineLaws.{none-yet, turn, owned-room}
 use Rattle.seen.specs.Mirror.{pair-of-site, put-two}
 use Rattle.seen.proofs.InsLaws.{one-or-none}

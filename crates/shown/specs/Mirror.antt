@@ -14,10 +14,10 @@ use Rattle.sharing.specs.Tapes.{read}
 use Rattle.sharing.proofs.Seen.{all-got, seen-totals}
 use Rattle.scope.specs.File.{circuit}
 use Rattle.scope.specs.Calls.{at-wire}
-use Rattle.site.specs.Mirror.{two}
+use Rattle.messages.specs.Mirror.{two}
 use Rattle.steps.specs.Mirror.{held-at}
-use Rattle.site.specs.declared.Two.{Two}
-use Rattle.site.specs.declared.Held.{Held}
+use Rattle.messages.specs.declared.Two.{Two}
+use Rattle.messages.specs.declared.Held.{Held}
 use Rattle.engine.specs.Mirror.{up-to}
 use Rattle.seen.specs.Mirror.{pair-of-site, put-two}
 

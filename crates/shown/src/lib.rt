@@ -12,16 +12,16 @@ ghost use Rattle.sharing.specs.Store.{store as storing};
 ghost use Rattle.sharing.specs.View.{own-ins};
 ghost use Rattle.scope.specs.File.{circuit, site-of};
 ghost use Rattle.scope.specs.Calls.{at-wire};
-ghost use Rattle.header.specs.Mirror.{Opened};
-ghost use Rattle.checks.specs.Mirror.{Checked};
+ghost use Rattle.header.specs.Opened.{Opened};
+ghost use Rattle.circuit.specs.Checked.{Checked};
 ghost use Rattle.steps.specs.Mirror.{held-at};
 ghost use Rattle.seen.specs.Mirror.{start-seen, Seeing};
 ghost use Rattle.shown.specs.Mirror.{copies-of-site, put-own, copies-on, copies-all, opened-on, opened-all, all-seen};
 use circuit::Output;
 use engine::Pos;
 use header::Counts;
-use site::Held;
-use site::Two;
+use messages::Held;
+use messages::Two;
 
 // Input k, where it is the site's own: its value, at place p. Gives the place after it.
 fn own_step(
@@ -37,7 +37,7 @@ fn own_step(
     requires { ⌜ (p + cond (is (site-of site) (circuit (now file) .owner k)) 1 0 ≤ length (now part)) × (p ≤ 65536) ⌝ }
     ensures { λ r. ⌜ (now (part .exit) ≡ put-own (cond (is (site-of site) (circuit (now (file .entry)) .owner k)) 1 0) p (getD (now (xs .entry)) k 0) (now (part .entry))) × (r ≡ p + cond (is (site-of site) (circuit (now (file .entry)) .owner k)) 1 0) ⌝ }
 {
-    let own = checks::input_owned(file, c, site, k);
+    let own = tally::input_owned(file, c, site, k);
     if own == 0 {
         return p;
     }
@@ -100,7 +100,7 @@ fn output_pairs(file: &[u8], c: Counts, store: &[u8], k: usize) -> Held
     ensures { λ r. ⌜ r ≡ held-at (c .inputs + c .gates) (circuit (now (file .entry)) .out k) (now (store .entry)) ⌝ }
 {
     let n = c.inputs + c.gates;
-    let r = circuit::output_with(file, c, k);
+    let r = reader::output_with(file, c, k);
     let Output::Is(w) = r else {
         let none = Two { x: 0, y: 0 };
         return Held {

@@ -9,9 +9,9 @@ use native.Mathlib.Omega.{arith}
 use lib.ListN.{getD, take, drop}
 use Rattle.sharing.specs.Ops.{Ops}
 use Rattle.sharing.specs.Steps.{later}
-use Rattle.site.specs.Mirror.{twelve, line-at, on-line}
-use Rattle.site.specs.declared.Four.{Four}
-use Rattle.site.specs.declared.Twelve.{Twelve}
+use Rattle.messages.specs.Mirror.{twelve, line-at, on-line}
+use Rattle.messages.specs.declared.Four.{Four}
+use Rattle.messages.specs.declared.Twelve.{Twelve}
 use Rattle.steps.specs.Mirror.{on-lines, lent, on-part}
 
 module _ (R : Ops) where

@@ -10,10 +10,11 @@ use Prim.Native.Nat.{ℕ, _+_, _*_, _-_}
 use lib.ListN.{set, take, drop}
 use Rattle.sharing.specs.Ops.{Ops}
 use Rattle.sharing.specs.Steps.{later}
-use Rattle.site.specs.Mirror.{pair-at, put-at, pair-of, twelve, held, add-at, flip-at, local-at, deal-at, on-line, take-at, kept-of, next-of, prev-of}
-use Rattle.site.specs.declared.Held.{Held}
-use Rattle.site.specs.declared.Four.{Four}
-use Rattle.site.specs.declared.Twelve.{Twelve}
+use Rattle.site.specs.Mirror.{pair-at, put-at, add-at, flip-at, local-at, take-at}
+use Rattle.messages.specs.Mirror.{pair-of, twelve, held, deal-at, on-line, kept-of, next-of, prev-of}
+use Rattle.messages.specs.declared.Held.{Held}
+use Rattle.messages.specs.declared.Four.{Four}
+use Rattle.messages.specs.declared.Twelve.{Twelve}
 
 -- ---- the line
 module _ (R : Ops) where

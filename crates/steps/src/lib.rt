@@ -3,19 +3,20 @@ ghost use mathlib.Core.Path.{_≡_};
 ghost use Prim.Native.Nat.{ℕ, _+_, _*_, _<_, _≤_};
 ghost use lib.ListN.{length};
 ghost use Rattle.sharing.specs.Ops.{bits};
-ghost use Rattle.site.specs.Mirror.{put-at, add-at, flip-at, local-at, deal-at, line-at, on-line, take-at, kept-of, next-of, prev-of, in-pairs, on-line-six, objects-of, opened-of, two-at};
+ghost use Rattle.site.specs.Mirror.{put-at, add-at, flip-at, local-at, take-at, two-at};
+ghost use Rattle.messages.specs.Mirror.{deal-at, line-at, on-line, kept-of, next-of, prev-of, in-pairs, on-line-six, objects-of, opened-of};
 ghost use Rattle.steps.specs.Mirror.{on-lines, put-four, put-twelve, add-gate, not-gate, sends, takes, put-held, held-at, put-six};
-use site::Four;
-use site::Held;
-use site::Twelve;
+use messages::Four;
+use messages::Held;
+use messages::Twelve;
 
 pub fn on_line12(m: Twelve, line: &[u8], at: usize) -> Twelve
     requires { ⌜ at + 12 ≤ length (now line) ⌝ }
     ensures { λ r. ⌜ r ≡ on-lines bits (line-at (now (line .entry)) at) m ⌝ }
 {
-    let s1 = site::on_line4(m.s1, line, at);
-    let s2 = site::on_line4(m.s2, line, at + 4);
-    let s3 = site::on_line4(m.s3, line, at + 8);
+    let s1 = messages::on_line4(m.s1, line, at);
+    let s2 = messages::on_line4(m.s2, line, at + 4);
+    let s3 = messages::on_line4(m.s3, line, at + 8);
     Twelve { s1, s2, s3 }
 }
 
@@ -118,7 +119,7 @@ pub fn deliver4(line: &[u8], room: &mut [u8], at: usize, m: Four) -> Four
     ensures { λ r. ⌜ r ≡ on-line bits (line-at (now (line .entry)) at) m ⌝ }
     ensures { λ r. ⌜ now (room .exit) ≡ put-four at r (now (room .entry)) ⌝ }
 {
-    let g = site::on_line4(m, line, at);
+    let g = messages::on_line4(m, line, at);
     put4(room, at, g);
     g
 }
@@ -164,7 +165,7 @@ pub fn deliver6(line: &[u8], room: &mut [u8], at: usize, h: Held) -> Held
     ensures { λ r. ⌜ r ≡ on-line-six bits (line-at (now (line .entry)) at) h ⌝ }
     ensures { λ r. ⌜ now (room .exit) ≡ put-six at r (now (room .entry)) ⌝ }
 {
-    let g = site::on_line6(h, line, at);
+    let g = messages::on_line6(h, line, at);
     put_six(room, at, g);
     g
 }

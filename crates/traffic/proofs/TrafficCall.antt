@@ -31,8 +31,9 @@ use Rattle.header.specs.declared.Counts.{Counts}
 use Rattle.header.specs.declared.Header.{Header}
 use Rattle.header.specs.declared.Header.the-variants.{Good, Refused}
 use Rattle.header.specs.Answers.{header-answer}
-use Rattle.header.specs.Mirror.{Opened}
-use Rattle.checks.specs.Mirror.{Checked, IsChecked}
+use Rattle.header.specs.Opened.{Opened}
+use Rattle.circuit.specs.Checked.{Checked}
+use Rattle.circuit.specs.Checked.{IsChecked}
 use Rattle.entries.specs.Mirror.{table-of, plus, Under, from-input, from-gate, from-output}
 use Rattle.traffic.specs.Answers.{place-of}
 use Rattle.traffic.specs.declared.Refusal.{Refusal}

@@ -5,7 +5,7 @@ ghost use Rattle.scope.specs.File.{circuit};
 ghost use Rattle.scope.specs.Answer.{number-of};
 ghost use Rattle.scope.specs.Calls.{Traffic, does};
 ghost use Rattle.sharing.specs.Traffic.{input-adds, gate-adds, output-adds, traffic-table};
-ghost use Rattle.header.specs.Mirror.{Opened};
+ghost use Rattle.header.specs.Opened.{Opened};
 ghost use Rattle.traffic.specs.Answers.{place-of};
 ghost use Rattle.entries.specs.Mirror.{table-of, plus, Under};
 ghost use Rattle.traffic.specs.Mirror.{input-steps, gate-steps, output-steps, sums-upto, refusal-by};
@@ -26,7 +26,7 @@ fn input_step(file: &[u8], c: Counts, k: usize, t: [[u32; 3]; 3]) -> [[u32; 3]; 
     requires { ⌜ Under t 8192 ⌝ }
     ensures { λ r. ⌜ r ≡ plus t (table-of (input-adds (circuit (now (file .entry)) .owner k))) ⌝ }
 {
-    let a = circuit::owner_with(file, c, k);
+    let a = reader::owner_with(file, c, k);
     let Owner::Is(o) = a else {
         return t;
     };
@@ -39,7 +39,7 @@ fn gate_step(file: &[u8], c: Counts, k: usize, t: [[u32; 3]; 3]) -> [[u32; 3]; 3
     requires { ⌜ Under t 8192 ⌝ }
     ensures { λ r. ⌜ r ≡ plus t (table-of (gate-adds (circuit (now (file .entry)) .gate k))) ⌝ }
 {
-    let d = checks::gate_deals(file, c, k);
+    let d = tally::gate_deals(file, c, k);
     let m = entries::gate_adds(d);
     entries::added(t, m)
 }

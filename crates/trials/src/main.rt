@@ -1,12 +1,8 @@
 // Reads a stream of calls from standard input, makes each of them and prints what it answers. docs/TRIALS.md has the form of both.
-mod jobs;
-mod retapes;
-mod rooms;
-mod several;
-mod single;
-mod values;
-mod views;
-
+use asks::single;
+use asks::values;
+use runs::jobs;
+use runs::several;
 use stream::input;
 use stream::input::Read;
 use stream::print;
@@ -43,6 +39,7 @@ fn make(which: usize, number: usize) -> bool {
         7 => several::run(),
         8 => views::view(number),
         9 => retapes::retape(number),
+        11 => jobs::listing(),
         _ => single::call(which, number),
     }
 }

@@ -28,7 +28,7 @@ use Rattle.header.specs.declared.Counts.{Counts}
 use Rattle.header.specs.declared.Header.{Header}
 use Rattle.header.specs.declared.Header.the-variants.{Good as HeaderGood, Refused as HeaderRefused}
 use Rattle.header.specs.Answers.{header-answer}
-use Rattle.checks.specs.Mirror.{Checked}
+use Rattle.circuit.specs.Checked.{Checked}
 use Rattle.checks.proofs.FrontLaws.{one-to-six, circuit-refuses, circuit-passes}
 use Rattle.given.specs.declared.Fault.{Fault}
 use Rattle.given.specs.Mirror.{found}

@@ -32,7 +32,7 @@ use Rattle.scope.specs.Calls.{at-wire, view-wants}
 use Rattle.scope.proofs.Refusals.{row-refuses, row-passes}
 use Rattle.scope.proofs.RunCall.{bit-draws}
 use Rattle.header.specs.declared.Counts.{Counts}
-use Rattle.header.specs.Mirror.{Opened}
+use Rattle.header.specs.Opened.{Opened}
 use Rattle.faults.specs.Mirror.{wrong-size}
 use Rattle.engine.specs.declared.Pos.{Pos}
 use Rattle.link.specs.Loops.{base, in-places, in-place, site-place}

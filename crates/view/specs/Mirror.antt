@@ -14,7 +14,7 @@ use Rattle.scope.specs.File.{circuit, site-of}
 use Rattle.scope.specs.Checks.{whole, Given, tapes-want}
 use Rattle.scope.specs.Calls.{view-wants}
 use Rattle.header.specs.declared.Counts.{Counts}
-use Rattle.checks.specs.Mirror.{Checked}
+use Rattle.circuit.specs.Checked.{Checked}
 use Rattle.header.specs.declared.Header.{Header}
 use Rattle.header.specs.declared.Header.the-variants.{Good, Refused as HeaderRefused}
 use Rattle.engine.specs.declared.Pos.{Pos}

@@ -12,7 +12,7 @@ ghost use Rattle.sharing.specs.View.{view-from};
 ghost use Rattle.scope.specs.File.{circuit, site-of};
 ghost use Rattle.scope.specs.Checks.{verdict};
 ghost use Rattle.scope.specs.Calls.{at-wire, View, does};
-ghost use Rattle.header.specs.Mirror.{Opened};
+ghost use Rattle.header.specs.Opened.{Opened};
 ghost use Rattle.link.specs.Loops.{site-place};
 ghost use Rattle.given.specs.Mirror.{found};
 ghost use Rattle.view.specs.Answers.{view-after};
@@ -52,13 +52,13 @@ fn given_fault(
             place: 0,
         };
     }
-    let own = checks::count_owned(file, c, site);
+    let own = tally::count_owned(file, c, site);
     let sizes = [view, store];
     let wants = [
         2 * c.inputs + own + 6 * a + 3 * c.outputs,
         6 * (c.inputs + c.gates),
     ];
-    let b = checks::first_size(&sizes, &wants);
+    let b = slices::first_size(&sizes, &wants);
     if b < 2 {
         return Fault {
             number: 10,
@@ -130,8 +130,8 @@ fn view_checked(
     ensures { λ _. ⌜ now (view .exit) ≡ view-from bits (site-of site) (circuit (now (file .entry))) (at-wire (now (xs .entry))) (now (tapes .entry)) ⌝ }
     ensures { λ _. ⌜ now (store .exit) ≡ storing (after bits (circuit (now (file .entry))) (at-wire (now (xs .entry))) (read (circuit (now (file .entry))) (now (tapes .entry))) no-errors (circuit (now (file .entry)) .gates)) ⌝ }
 {
-    let own = checks::count_owned(file, c, site);
-    let pos = run::begin(file, c, a);
+    let own = tally::count_owned(file, c, site);
+    let pos = start::begin(file, c, a);
     let t = tape_place(pos, site);
     let m = 2 * (own + a);
     let d = own + m;
@@ -179,7 +179,7 @@ pub fn view_of(
     let Header::Good(c) = h else {
         return refused(h);
     };
-    let a = checks::count_ands(file, c);
+    let a = tally::count_ands(file, c);
     let f = given_fault(file, c, a, inputs, tapes, site, view.len(), store.len());
     if f.number != 0 {
         return Viewed::Refused(f.number, f.place);

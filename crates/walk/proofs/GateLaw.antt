@@ -27,8 +27,8 @@ use Rattle.sharing.proofs.SiteLaws.{by-site}
 use Rattle.sharing.proofs.TapeLaws.{gates-length}
 use Rattle.sharing.proofs.Mine.{product-mine, gate-mine, gate-mine-is, look-mine, shift-behind}
 use Rattle.scope.proofs.RunCall.{bit-draws}
-use Rattle.site.specs.Mirror.{two, pair-of}
-use Rattle.site.specs.declared.Two.{Two}
+use Rattle.messages.specs.Mirror.{two, pair-of}
+use Rattle.messages.specs.declared.Two.{Two}
 use Rattle.engine.specs.Mirror.{Lower, up-to}
 use Rattle.link.proofs.FillLaws.{fill-two}
 use Rattle.pairs.specs.declared.Places.{Places}

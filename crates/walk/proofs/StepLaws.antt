@@ -17,8 +17,9 @@ use Rattle.sharing.specs.Circuit.{Gate, XOR, AND, OR, NOT, Circuit, dealing, an
 use Rattle.sharing.specs.Tapes.{tape-length}
 use Rattle.sharing.proofs.SiteLaws.{alike-two}
 use Rattle.scope.specs.File.{circuit}
-use Rattle.site.specs.Mirror.{put-at, deal-at}
-use Rattle.site.specs.declared.Four.{Four}
+use Rattle.site.specs.Mirror.{put-at}
+use Rattle.messages.specs.Mirror.{deal-at}
+use Rattle.messages.specs.declared.Four.{Four}
 use Rattle.steps.specs.Mirror.{on-part}
 use Rattle.engine.specs.Mirror.{up-to}
 use Rattle.engine.proofs.EngineLaws.{ands-room, owned-room, none-yet, turn}

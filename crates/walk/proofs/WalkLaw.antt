@@ -30,8 +30,8 @@ use Rattle.scope.specs.Calls.{at-wire, both-plain}
 use Rattle.scope.specs.Statements.{Bits}
 use Rattle.scope.proofs.PlainLaws.{plain-is, plain-length}
 use Rattle.header.specs.declared.Counts.{Counts}
-use Rattle.header.specs.Mirror.{Opened}
-use Rattle.checks.specs.Mirror.{Checked}
+use Rattle.header.specs.Opened.{Opened}
+use Rattle.circuit.specs.Checked.{Checked}
 use Rattle.engine.specs.Mirror.{Lower, up-to}
 use Rattle.engine.proofs.EngineLaws.{lower-of, ands-room, owned-room}
 use Rattle.pairs.specs.declared.Places.{Places}

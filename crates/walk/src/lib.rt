@@ -8,12 +8,12 @@ ghost use Rattle.sharing.specs.Circuit.{ands};
 ghost use Rattle.scope.specs.File.{circuit, site-of};
 ghost use Rattle.scope.specs.Calls.{at-wire, both-plain};
 ghost use Rattle.scope.specs.Statements.{Bits};
-ghost use Rattle.checks.specs.Mirror.{Checked};
+ghost use Rattle.circuit.specs.Checked.{Checked};
 ghost use Rattle.pairs.specs.Mirror.{Fits, st};
 ghost use Rattle.walk.specs.Mirror.{InFits, Lengths, input-on, in-state, gates-on, Walked};
 use header::Counts;
+use messages::Two;
 use pairs::Places;
-use site::Two;
 
 // Input k of a checked file; after is the site after this one.
 fn input_step(
@@ -39,8 +39,8 @@ fn input_step(
     let n = c.inputs + c.gates;
     let x = xs[k];
     let y = ys[k];
-    if checks::input_owned(file, c, site, k) == 1 {
-        let d = site::deal(own, at.own, x);
+    if tally::input_owned(file, c, site, k) == 1 {
+        let d = messages::deal(own, at.own, x);
         pairs::put_in(room, n, k, Two { x: d.d, y: d.a });
         return Places {
             own: at.own + 2,
@@ -48,8 +48,8 @@ fn input_step(
             prev: at.prev,
         };
     }
-    if checks::input_owned(file, c, after, k) == 1 {
-        let d = site::deal(next, at.next, x);
+    if tally::input_owned(file, c, after, k) == 1 {
+        let d = messages::deal(next, at.next, x);
         pairs::put_in(room, n, k, Two { x: d.c, y: d.d });
         pairs::put_draws(moved, at.next, d.a ^ (y ^ x), d.b);
         return Places {
@@ -58,7 +58,7 @@ fn input_step(
             prev: at.prev,
         };
     }
-    let d = site::deal(prev, at.prev, x);
+    let d = messages::deal(prev, at.prev, x);
     pairs::put_in(room, n, k, Two { x: d.a, y: d.b });
     Places {
         own: at.own,

@@ -26,7 +26,7 @@ use Rattle.scope.proofs.CallLaws.{does-good, good-accepts}
 use Rattle.scope.proofs.Accepted.{run-ok}
 use Rattle.run.specs.declared.Ran.the-variants.{Good}
 use Rattle.run.specs.Answers.{run-answer}
-use Rattle.run.specs.Mirror.{run-given}
+use Rattle.given.specs.Mirror.{run-given}
 use Rattle.run.proofs.RunCall.{run-one}
 use Rattle.demands.specs.Marked.{K-file, K-tapes, K-line, K-store}
 use Rattle.wrong.specs.Engine.{Lent, Meets, K1-outputs, K1-transcript, other-tapes, Long}

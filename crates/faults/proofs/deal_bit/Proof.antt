@@ -1,5 +1,5 @@
 use borrow.Author.Needs.{needs}
-use borrow.Author.Tests.{le-leb, lt-leb, eq-eqb, ne-eqb}
+use borrow.Author.Tests.{eq-eqb, ne-eqb}
 use Rattle.faults.specs.Mirror.{deals}
 use Rattle.faults.proofs.deal_bit.Statement.{statement}
 use Rattle.faults.proofs.deal_bit.Tie as tie

@@ -1,4 +1,3 @@
-use borrow.Author.Needs.{needs}
 use borrow.Author.Tests.{le-leb, lt-leb, eq-eqb, ne-eqb}
 use Rattle.faults.specs.Mirror.{job-place}
 use Rattle.faults.proofs.judge_job.Statement.{statement}

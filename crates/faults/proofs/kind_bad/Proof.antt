@@ -1,4 +1,3 @@
-use borrow.Author.Needs.{needs}
 use Rattle.faults.proofs.TestLaws.{kind-test}
 use Rattle.faults.proofs.kind_bad.Statement.{statement}
 use Rattle.faults.proofs.kind_bad.Tie as tie

@@ -1,5 +1,4 @@
-use borrow.Author.Needs.{needs}
-use borrow.Author.Tests.{le-leb, lt-leb, eq-eqb, ne-eqb}
+use borrow.Author.Tests.{eq-eqb, ne-eqb}
 use Rattle.faults.specs.Mirror.{site-no}
 use Rattle.faults.proofs.site_number.Statement.{statement}
 use Rattle.faults.proofs.site_number.Tie as tie

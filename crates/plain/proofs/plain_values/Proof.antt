@@ -1,6 +1,6 @@
 use borrow.Author.Needs.{needs}
 use native.Mathlib.Omega.{arith}
-use Rattle.checks.proofs.CheckLaws.{bits-long}
+use Rattle.slices.proofs.BitsLaws.{bits-long}
 use Rattle.checks.proofs.FrontLaws.{checked-from}
 use Rattle.plain.proofs.PlainCall.{circuit-refused, inputs-refused, buffer-refused, accepted-plain}
 use Rattle.plain.proofs.plain_values.Statement.{statement}

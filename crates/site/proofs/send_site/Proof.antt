@@ -1,5 +1,5 @@
 use borrow.Author.Needs.{needs}
-use Rattle.site.specs.Mirror.{deal-at}
+use Rattle.messages.specs.Mirror.{deal-at}
 use mathlib.Core.Path.{ap, _∙_}
 use Rattle.sharing.specs.Ops.{bits}
 use Rattle.site.proofs.send_site.Statement.{statement}

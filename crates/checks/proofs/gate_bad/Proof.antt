@@ -1,0 +1,16 @@
+use borrow.Author.Needs.{needs}
+use Rattle.circuit.proofs.ReaderLaws.{gate-none}
+use Rattle.checks.proofs.TestLaws.{gate-test}
+use Rattle.checks.proofs.gate_bad.Statement.{statement}
+use Rattle.checks.proofs.gate_bad.Tie as tie
+
+returns : tie.Need-returns
+returns c = absurd (gate-none _ _ _ _ _ _ (c .before .before .gate-with .ensures) (c .enum-told .given .1) (c .before .before .before .before .pre .1))
+
+returns-2 : tie.Need-returns-2
+returns-2 c = gate-test _ _ _ _ _ _ _ _ (c .before .before .before .before .before .gate-with .ensures) (c .before .before .before .a .given .1) (c .before .before .before .before .before .before .before .pre .1) (c .kind-bad .ensures)
+
+pub gate-bad-spec : {M : Type 1} → statement M
+gate-bad-spec =
+    tie.close
+    (tie.spec (λ c κs. search needs) (λ c. search needs) (λ c. search needs) returns (λ c. search needs) (λ c κs. search needs) returns-2)

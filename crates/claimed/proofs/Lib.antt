@@ -1,0 +1,2 @@
+pub mod ClaimedOne
+pub mod CountedLaws

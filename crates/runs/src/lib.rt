@@ -1,0 +1,3 @@
+// Trials of the run and of the listing.
+pub mod jobs;
+pub mod several;

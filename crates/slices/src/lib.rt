@@ -1,0 +1,70 @@
+// Checks 7 to 10, 12 and 14: the first fault of a slice of bits, of the buffers' lengths, of a job's header.
+ghost use mathlib.Core.Path.{_≡_};
+ghost use Prim.Native.Nat.{_+_, _<_, _≤_};
+ghost use lib.ListN.{length};
+ghost use Rattle.sharing.specs.First.{first};
+ghost use Rattle.scope.specs.Checks.{fault, bits-row};
+ghost use Rattle.faults.specs.Mirror.{above, wrong-size};
+ghost use Rattle.slices.specs.Mirror.{job-fault-of};
+
+// The first byte above 1, or n.
+pub fn first_above(s: &[u8], n: usize) -> usize
+    requires { ⌜ length (now s) ≡ n ⌝ }
+    ensures { λ r. ⌜ r ≡ first (above (now (s .entry))) n ⌝ }
+{
+    let mut k: usize = 0;
+    while k < n {
+        if faults::byte_above(s, k) {
+            return k;
+        }
+        k += 1;
+    }
+    n
+}
+
+// 7, 8, 9, 12: the place of the fault of a slice of bits, the wanted length or an index; one above the wanted length where there is none.
+pub fn bits_fault(s: &[u8], want: usize) -> usize
+    requires { ⌜ want ≤ 65536 ⌝ }
+    ensures { λ r. ⌜ r ≡ fault (bits-row (now (s .entry)) want) ⌝ }
+{
+    if s.len() != want {
+        return want;
+    }
+    let k = first_above(s, want);
+    if k < want {
+        return k;
+    }
+    want + 1
+}
+
+// 10: the first buffer that has not its length, by number, or how many there are.
+pub fn first_size(sizes: &[usize], wants: &[usize]) -> usize
+    requires { ⌜ length (now sizes) ≡ length (now wants) ⌝ }
+    ensures { λ r. ⌜ r ≡ first (wrong-size (now (sizes .entry)) (now (wants .entry))) (length (now (wants .entry))) ⌝ }
+{
+    let n = wants.len();
+    let mut k: usize = 0;
+    while k < n {
+        if faults::size_wrong(sizes, wants, k) {
+            return k;
+        }
+        k += 1;
+    }
+    n
+}
+
+// 14: the place of the fault of a job's header, or 13.
+pub fn job_fault(job: &[u8]) -> usize
+    ensures { λ r. ⌜ r ≡ job-fault-of (now (job .entry)) ⌝ }
+{
+    if job.len() < 16 {
+        return 0;
+    }
+    faults::judge_job(
+        job.len(),
+        numbers::u32_at(job, 0),
+        numbers::u32_at(job, 4),
+        numbers::u32_at(job, 8),
+        numbers::u32_at(job, 12),
+    )
+}
