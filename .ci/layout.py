@@ -2,7 +2,8 @@
 
 - Every folder under crates/ is a line of crates.txt, and the other way round.
 - No definition or proof declares an axiom.
-- No public call has a `requires`. A public call is a function whose comment begins "PUBLIC."; docs/STATEMENTS.md names each of them.
+- A public call is a function whose comment begins "PUBLIC.". Each such mark has its function, none has a `requires`, each cites `does (`
+  in its promise (a question to a reader `read-as (`), and docs/STATEMENTS.md has exactly these functions in its table.
 - No function over a Reader that a caller outside can reach has a `requires`: anybody can make a Reader.
 - Every must-fail edit says in its first line what wrong program it is.
 - Sources are in the toolchain's layout (`rt fmt --check`).
@@ -25,34 +26,69 @@ def listed():
     return names
 
 
-def reachable(comment):
-    """Path, name, and the text up to the body, of each function with such a comment that a caller outside can reach."""
-    head = re.compile(comment + r"pub (?:extern \"C\" )?fn (\w+)([^{]*(?:\{ λ[^\n]*\n[^{]*)*)", re.M)
-    for path in sorted((ROOT / "crates").glob("*/src/*.rt")):
-        for found in head.finditer(path.read_text()):
-            yield path.relative_to(ROOT), found.group(1), found.group(0)
+MARK = re.compile(r"//+\s*PUBLIC\b")
+FUNCTION = re.compile(r"pub (?:extern \"C\" )?fn (\w+)")
+ROW = re.compile(r"^\| `\w+`[^|]* \| \[`(\w+)`\]\(\.\./(crates/[^)]+\.rt)\) \|", re.M)
+
+
+def sources():
+    for path in sorted((ROOT / "crates").glob("*/src/**/*.rt")):
+        yield path.relative_to(ROOT), path.read_text().splitlines()
+
+
+def head(lines, start):
+    """A function from its first line on, up to its body."""
+    end = start
+    while end < len(lines) and not lines[end].startswith("{") and not (end > start and lines[end - 1].endswith("{")):
+        end += 1
+    return "\n".join(lines[start:end])
 
 
 def public_calls():
-    return reachable(r"^// PUBLIC\..*\n(?://.*\n)*")
+    """Path, name and contract of the function behind each mark; no name where there is none. Comments and attributes may stand between."""
+    for path, lines in sources():
+        for number, line in enumerate(lines):
+            if not MARK.search(line):
+                continue
+            after = number + 1
+            while after < len(lines) and lines[after].strip().startswith(("//", "#[")):
+                after += 1
+            found = FUNCTION.match(lines[after]) if after < len(lines) and line.startswith("// PUBLIC.") else None
+            yield path, found and found.group(1), head(lines, after)
 
 
 def over_reader():
-    return (found for found in reachable(r"^") if re.search(r"\(.*\bReader\b.*\)", found[2].split("->")[0], re.S))
+    """Path, name and contract of each function with a Reader among its parameters that a caller outside can reach."""
+    for path, lines in sources():
+        for number, line in enumerate(lines):
+            found = FUNCTION.match(line)
+            if found and re.search(r"\(.*\bReader\b.*\)", head(lines, number).split("->")[0], re.S):
+                yield path, found.group(1), head(lines, number)
+
+
+def public_problems():
+    seen = set()
+    for path, name, contract in public_calls():
+        if name is None:
+            yield f"{path}: a mark PUBLIC with no function behind it"
+            continue
+        seen.add((name, str(path)))
+        if re.search(r"^\s*requires\b", contract, re.M):
+            yield f"{path}: public call {name} has a requires"
+        if not re.search(r"^\s*ensures\b.*\b(?:does|read-as) \(", contract, re.M | re.S):
+            yield f"{path}: public call {name} does not promise what its call does"
+    named = set(ROW.findall((ROOT / "docs" / "STATEMENTS.md").read_text()))
+    for name, path in sorted(seen ^ named):
+        yield f"{path}: {name} is " + ("not in docs/STATEMENTS.md's table of functions" if (name, path) in seen else "in docs/STATEMENTS.md's table of functions, and no public call")
+    if not seen:
+        yield "no public call is seen"
+    for path, name, contract in over_reader():
+        if re.search(r"^\s*requires\b", contract, re.M):
+            yield f"{path}: {name} is over a Reader, can be reached from outside and has a requires"
 
 
 def problems():
-    named = (ROOT / "docs" / "STATEMENTS.md").read_text()
-    for path, name, text in public_calls():
-        if re.search(r"^\s*requires\b", text, re.M):
-            yield f"{path}: public call {name} has a requires"
-        if not re.search(r"^\s*ensures\b", text, re.M):
-            yield f"{path}: public call {name} ensures nothing"
-        if f"[`{name}`](../{path})" not in named:
-            yield f"{path}: public call {name} is not in docs/STATEMENTS.md"
-    for path, name, text in over_reader():
-        if re.search(r"^\s*requires\b", text, re.M):
-            yield f"{path}: {name} is over a Reader, can be reached from outside and has a requires"
+    yield from public_problems()
     folders = {path.name for path in (ROOT / "crates").iterdir() if path.is_dir()}
     for name in sorted(folders ^ listed()):
         yield f"crates/{name} and crates.txt differ"

@@ -2,7 +2,7 @@
 
 A citation there is a link whose text is a name in code quotes and whose target is
 a file of this repository: [`does`](../crates/scope/specs/Calls.antt).  The file
-must be there and must declare that name.  Every theorem of the demands must be
+must be there and must declare that name; a comment declares nothing.  Every theorem of the demands must be
 cited, so that none is added, renamed or dropped without the map.
 """
 
@@ -14,16 +14,21 @@ ROOT = pathlib.Path(__file__).resolve().parent.parent
 MAP = ROOT / "docs" / "STATEMENTS.md"
 THEOREMS = ["crates/demands/proofs/Demands.antt", "crates/demands/proofs/Marked.antt"]
 LINK = re.compile(r"\[`([^`]+)`\]\(([^)#]+)\)")
-MARKS = r"(?:(?:pub|abbrev|unfoldable)\s+)*"
+COMMENT = {".antt": "--", ".rt": "//"}
+MARKS = r"[ ]*(?:(?:pub|abbrev|unfoldable)[ ]+)*"
 
 
 def declares(text, name, kind):
     quoted = re.escape(name)
+    if kind in COMMENT:
+        text = re.sub(COMMENT[kind] + ".*", "", text)
     if kind == ".antt":
-        return re.search(rf"^\s*{MARKS}(?:data|record)\s+{quoted}(?=[\s(:])", text, re.M) \
-            or re.search(rf"^\s*{MARKS}(?:[^\s:(]+\s+)*?{quoted}(?:\s+[^\s:(]+)*\s+:\s", text, re.M)
+        return re.search(rf"^{MARKS}(?:data|record)[ ]+{quoted}(?=[\s(:])", text, re.M) \
+            or re.search(rf"^{MARKS}(?:[^\s:(=]+[ ]+)*?{quoted}(?:[ ]+[^\s:(=]+)*[ ]+:\s", text, re.M)
     if kind == ".rt":
         return re.search(rf"\b(?:fn|struct|enum|const)\s+{quoted}\b", text)
+    if kind == ".py":
+        return re.search(rf"^def {quoted}\(", text, re.M)
     return name in text
 
 

@@ -1,34 +1,33 @@
 -- The three demands of 00, a theorem for each sentence, about the whole calls of scope/specs/Calls.antt. Nothing else is here.
 -- `does c` is the answer of call c, what it returns, and every lent buffer afterwards; `buffer k c` is lent buffer k afterwards;
 -- `Accepts c` says that its answer is no refusal. Assumes nothing.
-use mathlib.Core.Path.{_≡_, refl, sym, ap, ap₂, _∙_, subst}
-use mathlib.Core.Bool.{Bool, true, false, not, cond}
+use mathlib.Core.Path.{_≡_}
+use mathlib.Core.Bool.{not}
 use mathlib.Core.Logic.{_↔_}
 use mathlib.Core.List.{List, [], _∷_, _++_, map}
-use Prim.Native.Nat.{ℕ, zero, suc, _+_, _*_, _<_, _≤_}
-use native.Mathlib.Omega.{arith}
+use Prim.Native.Nat.{ℕ, suc, _+_, _*_, _<_, _≤_}
 use lib.ListN.{length, getD, take, drop}
 use lib.Dec.{eqb}
 use Rattle.sharing.specs.Ops.{bits}
-use Rattle.sharing.specs.Sites.{Site, s1, s2, s3, next, of}
+use Rattle.sharing.specs.Sites.{Site, next, sites-before, of}
 use Rattle.sharing.specs.Circuit.{Circuit, wires, all-ands, all-owned}
 use Rattle.sharing.specs.Published.{Parts, no-parts, total, parts, sent-bits}
-use Rattle.sharing.specs.Steps.{hold, copies, named}
-use Rattle.sharing.specs.Run.{made, opens-delivered, transcript, objects}
+use Rattle.sharing.specs.Steps.{hold, copies, named, opened}
+use Rattle.sharing.specs.Run.{after, output, copies-at, made, opens-delivered, transcript}
 use Rattle.sharing.specs.Order.{routes, pick, count}
 use Rattle.sharing.specs.Tapes.{cut, read}
 use Rattle.sharing.specs.Line.{at-output, errors}
-use Rattle.sharing.specs.Store.{store, fill}
+use Rattle.sharing.specs.Store.{store}
 use Rattle.sharing.specs.View.{own-ins}
-use Rattle.sharing.specs.Traffic.{input-adds, gate-adds, output-adds, sum, comparing, no-table}
+use Rattle.sharing.specs.Traffic.{input-adds, gate-adds, output-adds, sum, comparing, add-up, table-total, no-table}
 use Rattle.scope.specs.File.{circuit, site-of}
 use Rattle.scope.specs.Plain.{plain, plain-out}
 use Rattle.scope.specs.Answer.{good, abort, refused}
 use Rattle.scope.specs.Checks.{Holds}
-use Rattle.scope.specs.Refusal.{position, those-of, FirstRefusal}
+use Rattle.scope.specs.Refusal.{position, FirstRefusal}
 use Rattle.scope.specs.Listing.{good-text}
-use Rattle.scope.specs.Calls.{Call, Check, Traffic, Run, View, Retape, Listing, given-of, fixed-order, concerns, order, lent-before, does, Accepts, buffer, at-wire, job-file, job-inputs}
-use Rattle.scope.specs.Statements.{Bits, Clean, copies-of, Alike, StopsAt, Keeps, opened-plain, plain-outs, add-up, place-of, entry-of}
+use Rattle.scope.specs.Calls.{Call, Open, Check, Traffic, Run, View, Retape, Listing, given-of, order, lent-before, does, Accepts, buffer, at-wire, job-file, job-inputs}
+use Rattle.scope.specs.Statements.{Bits, Clean, copies-of, Alike, StopsAt, Keeps, opened-plain, plain-outs, part-of, entry-of}
 use Rattle.scope.proofs.Whole as W
 
 -- DEMAND 1. "Every public call checks all it is given. A refusal is a number and a place, given in one fixed order, when its condition holds
@@ -39,10 +38,12 @@ refused-exactly = W.refused-exactly
 pub accepted-exactly : (c : Call) → Accepts c ↔ ((N P : ℕ) → position (order c) N < length (order c) → ¬ Holds (given-of c) N P)
 accepted-exactly = W.accepted-exactly
 
--- "in one fixed order": every call makes its checks in the one order, and only those that concern it.
-pub one-order-for-all-calls : (c : Call) → order c ≡ those-of (concerns c) fixed-order
-unfolding order
-one-order-for-all-calls c = refl
+-- "in one fixed order": two refusals that concern two calls stand in the same order in both.
+pub one-order-for-all-calls : (c d : Call) (M N : ℕ)
+    → position (order c) M < length (order c) → position (order c) N < length (order c)
+    → position (order d) M < length (order d) → position (order d) N < length (order d)
+    → (position (order c) M < position (order c) N) ↔ (position (order d) M < position (order d) N)
+one-order-for-all-calls = W.one-order
 
 -- "Lent buffers are then unchanged, except a work room at refusal 13, whose bytes are laid down."
 pub refusal-changes-no-buffer : (c : Call) (N P : ℕ) → does c .answer ≡ refused N P → ¬ (N ≡ 13) → does c .lent ≡ lent-before c
@@ -59,15 +60,26 @@ refusal-13-lays-down-plain-values = W.refusal-13-lays-down
 pub lent-buffers-keep-their-lengths : (c : Call) → map length (does c .lent) ≡ map length (lent-before c)
 lent-buffers-keep-their-lengths = W.lengths-stay
 
--- 01: "so a file has at most 20,000 bytes"; line and transcript have "at most 42,496"
-pub accepted-files-are-small : (f : List ℕ) → Accepts (Check f) → (length f ≤ 20000) × (4 * circuit f .ins + 12 * all-ands (circuit f) + 6 * circuit f .outs ≤ 42496)
+-- 01: "so a file has at most 20,000 bytes"; line and transcript have "at most 42,496": of every file that passes 1 to 3,
+pub accepted-files-are-small : (f : List ℕ) → Accepts (Open f) → (length f ≤ 20000) × (4 * circuit f .ins + 12 * all-ands (circuit f) + 6 * circuit f .outs ≤ 42496)
 accepted-files-are-small = W.limits-hold
+
+-- and so of every one that passes 1 to 6.
+pub what-is-checked-opens : (f : List ℕ) → Accepts (Check f) → Accepts (Open f)
+what-is-checked-opens = W.check-opens
 
 -- 01: "With a refusal the table is all zeros."
 pub refused-traffic-is-zero : (f : List ℕ) (N P : ℕ) → does (Traffic f) .answer ≡ refused N P → does (Traffic f) .returned ≡ no-table
 refused-traffic-is-zero = W.refused-traffic
 
--- DEMAND 2, the undisturbed line. "On an undisturbed line each accepted circuit opens at all three sites to its plain Boolean value"
+-- DEMAND 2. "each accepted circuit": it runs on every inputs, tapes and line of bits that have the right lengths, in buffers that have theirs.
+pub accepted-circuits-run : (f x t l outs tr st : List ℕ) → Accepts (Check f)
+    → Bits x (circuit f .ins) → Bits t (2 * circuit f .ins + 6 * all-ands (circuit f)) → Bits l (4 * circuit f .ins + 12 * all-ands (circuit f) + 6 * circuit f .outs)
+    → length outs ≡ 3 * circuit f .outs → length tr ≡ 4 * circuit f .ins + 12 * all-ands (circuit f) + 6 * circuit f .outs → length st ≡ 6 * wires (circuit f)
+    → Accepts (Run f x t l outs tr st)
+accepted-circuits-run = W.run-accepted
+
+-- The undisturbed line. "On an undisturbed line each accepted circuit opens at all three sites to its plain Boolean value"
 module _ (f x t l outs tr st : List ℕ) (accepted : Accepts (Run f x t l outs tr st)) where
   abbrev the-run : Call
   the-run = Run f x t l outs tr st
@@ -88,8 +100,8 @@ module _ (f x t l outs tr st : List ℕ) (accepted : Accepts (Run f x t l outs t
 
   -- site s having parts s and s + 1 of wire w, so that both holders of a part hold the same,
   pub clean-pairs-are-parts : Clean l → (s : Site) (w : ℕ) → w < wires C
-      → (getD (buffer 2 the-run) (2 * wires C * place-of s + 2 * w) 0 ≡ of (getD published w no-parts) s)
-      × (getD (buffer 2 the-run) (2 * wires C * place-of s + (2 * w + 1)) 0 ≡ of (getD published w no-parts) (next s))
+      → (getD (buffer 2 the-run) (2 * wires C * sites-before s + 2 * w) 0 ≡ of (getD published w no-parts) s)
+      × (getD (buffer 2 the-run) (2 * wires C * sites-before s + (2 * w + 1)) 0 ≡ of (getD published w no-parts) (next s))
   clean-pairs-are-parts = W.clean-pairs f x t l outs tr st accepted
 
   -- and the three parts of a wire add up to its plain value.
@@ -134,10 +146,22 @@ module _ (f x t l outs tr st : List ℕ) (accepted : Accepts (Run f x t l outs t
       (take n (buffer 1 the-run) ≡ opens-delivered bits C (at-wire x) (read C t) (errors C l) (suc o)) × (drop n (buffer 1 the-run) ≡ drop n tr)
   abort-keeps-the-rest = W.abort-transcript f x t l outs tr st accepted
 
-  -- LENGTHS. 01: transcript and line "have 4I+12A+6O bytes"
-  pub transcript-length : does the-run .answer ≡ good []
-      → length (transcript bits C (at-wire x) (read C t) (errors C l)) ≡ 4 * C .ins + 12 * all-ands C + 6 * C .outs
-  transcript-length = W.transcript-length f x t l outs tr st accepted
+  -- "the store is complete", at an abort as in a good run: every site's pair of every wire
+  pub store-is-complete : buffer 2 the-run ≡ store (after bits C (at-wire x) (read C t) (errors C l) (C .gates))
+  store-is-complete = W.store-complete f x t l outs tr st accepted
+
+  -- "A good run writes 3O bytes, for each output what site 1, 2 and 3 opened.", on any line
+  pub good-run-writes-what-was-opened : does the-run .answer ≡ good []
+      → (length (buffer 0 the-run) ≡ 3 * C .outs)
+      × ((o : ℕ) → o < C .outs → (s : Site)
+      → getD (buffer 0 the-run) (3 * o + sites-before s) 0
+      ≡ of (opened bits (copies-at bits C (at-wire x) (read C t) (errors C l) o) (output bits C (at-wire x) (read C t) (errors C l) o)) s)
+  good-run-writes-what-was-opened = W.good-outputs f x t l outs tr st accepted
+
+  -- LENGTHS. 01: transcript and line "have 4I+12A+6O bytes": a good run's transcript is whole
+  pub good-transcript-is-whole : does the-run .answer ≡ good []
+      → (buffer 1 the-run ≡ transcript bits C (at-wire x) (read C t) (errors C l)) × (length (buffer 1 the-run) ≡ 4 * C .ins + 12 * all-ands C + 6 * C .outs)
+  good-transcript-is-whole = W.whole-transcript f x t l outs tr st accepted
 
 -- DEMAND 3. "Take an undisturbed run, one site, and other inputs to the same circuit that keep that site's own bits and all opened bits."
 -- The first view is View f x t s v st; re-taping is asked for second inputs y.
@@ -148,40 +172,63 @@ module _ (f x t y : List ℕ) (s : ℕ) (nt wr : List ℕ) where
   abbrev new : List ℕ
   new = buffer 0 re-taping
 
-  -- re-taping is accepted only where they are kept,
+  -- with such inputs, and buffers of the right lengths, re-taping is accepted,
+  pub kept-bits-are-accepted : (v st : List ℕ) → Accepts (View f x t s v st) → Bits y (circuit f .ins)
+      → length nt ≡ 2 * circuit f .ins + 6 * all-ands (circuit f) → length wr ≡ 4 * wires (circuit f) → Keeps (site-of s) (circuit f) x y
+      → Accepts re-taping
+  kept-bits-are-accepted = W.kept-accepted f x t y s nt wr
+
+  -- and only with such,
   pub accepted-keeps-own-and-opened-bits : Accepts re-taping → Keeps (site-of s) (circuit f) x y
   accepted-keeps-own-and-opened-bits = W.keeps-them f x t y s nt wr
 
   -- "Exactly one set of tapes gives that site the same view: own bits and tape, bits received, bits opened. The program returns it."
+  -- A second call is lent buffers of its own, whatever they hold.
   pub new-tapes-give-the-same-view : Accepts re-taping → (v st : List ℕ) → Accepts (View f x t s v st)
-      → Accepts (View f y new s v st) × (buffer 0 (View f y new s v st) ≡ buffer 0 (View f x t s v st))
+      → (v′ st′ : List ℕ) → length v′ ≡ length v → length st′ ≡ length st
+      → Accepts (View f y new s v′ st′) × (buffer 0 (View f y new s v′ st′) ≡ buffer 0 (View f x t s v st))
   new-tapes-give-the-same-view = W.same-view f x t y s nt wr
 
-  pub no-other-tapes-do : Accepts re-taping → (v st : List ℕ) → Accepts (View f x t s v st) → (u : List ℕ) → Accepts (View f y u s v st)
-      → buffer 0 (View f y u s v st) ≡ buffer 0 (View f x t s v st) → u ≡ new
+  pub no-other-tapes-do : Accepts re-taping → (v st : List ℕ) → Accepts (View f x t s v st) → (u v′ st′ : List ℕ) → Accepts (View f y u s v′ st′)
+      → buffer 0 (View f y u s v′ st′) ≡ buffer 0 (View f x t s v st) → u ≡ new
   no-other-tapes-do = W.only-these f x t y s nt wr
 
   -- "Going back returns the first tapes"
-  pub going-back-returns-the-first-tapes : Accepts re-taping → let back = Retape f y new x s nt wr in Accepts back × (buffer 0 back ≡ t)
+  pub going-back-returns-the-first-tapes : Accepts re-taping → (nt′ wr′ : List ℕ) → length nt′ ≡ length nt → length wr′ ≡ length wr
+      → let back = Retape f y new x s nt′ wr′ in Accepts back × (buffer 0 back ≡ t)
   going-back-returns-the-first-tapes = W.going-back f x t y s nt wr
 
   -- "going by way of a third such set of inputs returns what going straight does": if two of the three calls are accepted, so is the other
-  pub by-way-of-a-third : Accepts re-taping → (z : List ℕ) → Accepts (Retape f x t z s nt wr)
-      → let way = Retape f y new z s nt wr in Accepts way × (buffer 0 way ≡ buffer 0 (Retape f x t z s nt wr))
+  pub by-way-of-a-third : Accepts re-taping → (z nt′ wr′ : List ℕ) → Accepts (Retape f x t z s nt′ wr′)
+      → (nt″ wr″ : List ℕ) → length nt″ ≡ length nt → length wr″ ≡ length wr
+      → let way = Retape f y new z s nt″ wr″ in Accepts way × (buffer 0 way ≡ buffer 0 (Retape f x t z s nt′ wr′))
   by-way-of-a-third = W.by-third f x t y s nt wr
 
-  pub straight-is-accepted-too : Accepts re-taping → (z : List ℕ) → Accepts (Retape f y new z s nt wr) → Accepts (Retape f x t z s nt wr)
+  pub straight-is-accepted-too : Accepts re-taping → (z nt′ wr′ : List ℕ) → Accepts (Retape f y new z s nt′ wr′)
+      → (nt″ wr″ : List ℕ) → length nt″ ≡ length nt → length wr″ ≡ length wr → Accepts (Retape f x t z s nt″ wr″)
   straight-is-accepted-too = W.straight f x t y s nt wr
 
   -- "Where own or opened bits change, no such tapes exist and it says so."
-  pub where-13-no-tapes-exist : (P : ℕ) → does re-taping .answer ≡ refused 13 P → (v st u : List ℕ) → Accepts (View f x t s v st) → Accepts (View f y u s v st)
-      → ¬ (buffer 0 (View f y u s v st) ≡ buffer 0 (View f x t s v st))
+  pub where-13-no-tapes-exist : (P : ℕ) → does re-taping .answer ≡ refused 13 P
+      → (v st u v′ st′ : List ℕ) → Accepts (View f x t s v st) → Accepts (View f y u s v′ st′)
+      → ¬ (buffer 0 (View f y u s v′ st′) ≡ buffer 0 (View f x t s v st))
   where-13-no-tapes-exist = W.no-tapes f x t y s nt wr
 
   pub changed-bits-are-refused-with-13 : (v st : List ℕ) → Accepts (View f x t s v st) → Bits y (circuit f .ins)
       → length nt ≡ 2 * circuit f .ins + 6 * all-ands (circuit f) → length wr ≡ 4 * wires (circuit f) → ¬ Keeps (site-of s) (circuit f) x y
       → (P : ℕ) × (does re-taping .answer ≡ refused 13 P)
   changed-bits-are-refused-with-13 = W.says-so f x t y s nt wr
+
+  -- 01: "a work room of 4W bytes: plain values of all wires under the first inputs, then under the second, then the site's pairs (2W)":
+  -- those of an undisturbed run on the first inputs and tapes,
+  pub work-room-has-the-first-runs-pairs : Accepts re-taping → (l outs tr st : List ℕ) → Accepts (Run f x t l outs tr st) → Clean l
+      → buffer 1 re-taping ≡ plain (circuit f) x ++ plain (circuit f) y ++ part-of (site-of s) (circuit f) (buffer 2 (Run f x t l outs tr st))
+  work-room-has-the-first-runs-pairs = W.room-first f x t y s nt wr
+
+  -- and as well of one on the second inputs and the new tapes.
+  pub work-room-has-the-second-runs-pairs : Accepts re-taping → (l outs tr st : List ℕ) → Accepts (Run f y new l outs tr st) → Clean l
+      → buffer 1 re-taping ≡ plain (circuit f) x ++ plain (circuit f) y ++ part-of (site-of s) (circuit f) (buffer 2 (Run f y new l outs tr st))
+  work-room-has-the-second-runs-pairs = W.room-second f x t y s nt wr
 
   -- 01: new tapes have 2I+6A bits
   pub new-tapes-length : Accepts re-taping → length new ≡ 2 * circuit f .ins + 6 * all-ands (circuit f)
@@ -202,6 +249,11 @@ module _ (f x t l : List ℕ) (s : ℕ) (outs tr st v vst : List ℕ) (ran : Acc
 pub listing-shows-plain-values : (j : List ℕ) → Accepts (Listing j)
     → does (Listing j) .returned ≡ good-text (circuit (job-file j)) (plain-out (circuit (job-file j)) (job-inputs j)) ∷ []
 listing-shows-plain-values = W.listing-plain
+
+-- 01: "line two the traffic total": the total in that text is the sum of the table that a traffic call returns
+pub listing-shows-the-traffic-total : (j : List ℕ) → Accepts (Listing j)
+    → Accepts (Traffic (job-file j)) × (table-total (circuit (job-file j)) ≡ add-up (does (Traffic (job-file j)) .returned))
+listing-shows-the-traffic-total = W.listing-total
 
 -- 01: a view's "length is 2I+Is+6A+3O"
 pub view-length : (f x t : List ℕ) (s : ℕ) (v st : List ℕ) → Accepts (View f x t s v st)

@@ -14,7 +14,7 @@ use Rattle.sharing.specs.Line.{at-input, at-gate, at-output, errors}
 use Rattle.sharing.specs.Store.{side, store, fill}
 use Rattle.sharing.specs.View.{own-ins, seen-outs, view-from}
 use Rattle.sharing.specs.Retape.{next-shares, shift, retape, new-tapes}
-use Rattle.sharing.specs.Traffic.{input-adds, gate-adds, output-adds, sum, entry, traffic-table, table-total}
+use Rattle.sharing.specs.Traffic.{input-adds, gate-adds, output-adds, sum, entry, traffic-table, add-row, add-up}
 use Rattle.scope.specs.File.{le16, le32, size, owner-at, kind-at, first-at, second-at, output-at, site-of, gate-of}
 use Rattle.scope.specs.Plain.{bit, byte, plain-gate, plain-inputs, plain-values, plain}
 use Rattle.scope.specs.Answer.{After}
@@ -26,5 +26,5 @@ use Rattle.demands.specs.Marked.{Row, rows}
 
 -- every row's call does what is wanted
 pub marked : map (λ (r : Row). does (r .call)) rows ≡ map (λ (r : Row). r .wanted) rows
-unfolding is if-own dealing ands owned value-gate value-inputs values if-deals ins-routes gates-routes routes pick mul-parts gate-parts ins-parts parts objecting copies delivered in-wire delivered3 mix gate-wire gate-delivered six opened first ins-after after ins-delivered gates-delivered output out-delivered objects stop opens-delivered made transcript opened-at outputs tape-length draws ins-tape tape at-input at-gate at-output errors side store fill own-ins seen-outs view-from next-shares shift retape new-tapes input-adds gate-adds output-adds sum entry traffic-table table-total le16 le32 size owner-at kind-at first-at second-at output-at site-of gate-of bit byte plain-gate plain-inputs plain-values plain tested row-owner good-gate row-gate row-output refusal-table row fault verdict digits decimal out-lines good-text refused-text given-of concerns those-of stands-in order ran both-plain work-room when-good lent-before lent-at-13 when-refused returned-refused settle does
+unfolding is if-own dealing ands owned value-gate value-inputs values if-deals ins-routes gates-routes routes pick mul-parts gate-parts ins-parts parts objecting copies delivered in-wire delivered3 mix gate-wire gate-delivered six opened first ins-after after ins-delivered gates-delivered output out-delivered objects stop opens-delivered made transcript opened-at outputs tape-length draws ins-tape tape at-input at-gate at-output errors side store fill own-ins seen-outs view-from next-shares shift retape new-tapes input-adds gate-adds output-adds sum entry traffic-table add-row add-up le16 le32 size owner-at kind-at first-at second-at output-at site-of gate-of bit byte plain-gate plain-inputs plain-values plain tested row-owner good-gate row-gate row-output refusal-table row fault verdict digits decimal out-lines good-text refused-text given-of concerns those-of stands-in order ran both-plain work-room when-good lent-before lent-at-13 when-refused returned-refused settle does
 marked = refl

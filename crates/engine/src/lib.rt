@@ -1,4 +1,4 @@
-// The passes of a run: inputs and gates once, openings judged, openings handed over.
+// The passes of a run over inputs and gates.
 ghost use mathlib.Core.Path.{_≡_};
 ghost use mathlib.Core.Bool.{true};
 ghost use Prim.Native.Nat.{ℕ, _+_, _*_, _<_, _≤_};

@@ -11,14 +11,14 @@ use mathlib.Core.List.{List}
 use Prim.Native.Nat.{ℕ, zero, suc, _+_, _*_, _≤_, _<_}
 use native.Mathlib.Omega.{arith}
 use native.Mathlib.Nat.{le-of-eq, add-zero}
-use lib.ListN.{length, getD, length-append}
+use lib.ListN.{length, getD}
 use Rattle.sharing.specs.Ops.{bits}
 use Rattle.sharing.specs.Circuit.{Circuit, Draws, Errors, all-ands}
 use Rattle.sharing.specs.Steps.{Wire, no-wire}
 use Rattle.sharing.specs.Run.{after, gates-delivered, output, out-delivered, objects, opens-delivered, opened-at, outputs}
 use Rattle.sharing.specs.Line.{at-output, errors}
 use Rattle.sharing.specs.Store.{fill, store}
-use Rattle.sharing.proofs.RunLaws.{after-length, sent-length, sent-at}
+use Rattle.sharing.proofs.RunLaws.{after-length, sent-length, sent-at, outputs-length}
 use Rattle.sharing.proofs.StoreLaws.{store-length, fill-read}
 use Rattle.scope.specs.File.{circuit}
 use Rattle.messages.specs.Mirror.{three, on-line-six, objects-of, opened-of}
@@ -46,12 +46,6 @@ module _ (C : Circuit) (x : ℕ → ℕ) (T : Draws) (E : Errors) where
   tr-at tr m k j h i =
       let l = sent-length bits C x T E m in
       fill-read tr (opens-delivered bits C x T E m) (4 * C .ins + 12 * all-ands C + 6 * k + j) (omega arith) ∙ sent-at bits C x T E k m h j i
-
-  -- three opened bits an output
-  pub outputs-length : (k : ℕ) → length (outputs bits C x T E k) ≡ 3 * k
-  unfolding outputs
-  outputs-length zero = refl
-  outputs-length (suc k) = length-append (outputs bits C x T E k) _ ∙ (let l = outputs-length k in omega arith)
 
 -- ---- the two passes
 module _ (file line : List ℕ) (x : ℕ → ℕ) (T : Draws) (n : ℕ) (hn : circuit file .ins + circuit file .gates ≡ n)
@@ -123,7 +117,7 @@ module _ (file line : List ℕ) (x : ℕ → ℕ) (T : Draws) (n : ℕ) (hn : ci
       unfolding hand-on put-three outputs
       hand-law k h ho r =
           ap (λ (z : Three). put-three (3 * k) z (fill outs (outputs bits C x T E k))) (three-law k h ho)
-          ∙ fill-three outs (outputs bits C x T E k) (3 * k) _ _ _ (outputs-length C x T E k) r
+          ∙ fill-three outs (outputs bits C x T E k) (3 * k) _ _ _ (outputs-length bits C x T E k) r
 
       -- the first k
       pub hands-law : (k : ℕ) → k ≤ m → ((j : ℕ) → j < k → C .out j < n) → 3 * k ≤ length outs

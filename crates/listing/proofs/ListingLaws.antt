@@ -12,12 +12,13 @@ use mathlib.Core.Bool.{Bool, true, false, not, cond, true≢false, _&&_, _||_}
 use mathlib.Core.List.{List, [], _∷_, _++_, map}
 use Prim.Native.Nat.{ℕ, zero, suc, _+_, _*_, _-_, _<_, _≤_}
 use native.Mathlib.Omega.{arith}
-use lib.ListN.{length, getD, take, drop, replicate, length-append, length-drop, take-append-drop, List·getD-append}
-use lib.Seq.{take-all, take-append-seam, length-take-le, getD-append-seam}
-use lib.Dec.{eqb, leb, ltb}
-use borrow.Author.Tests.{eq-eqb, leb-true, lt-ltb, le-ltb, ltb-true, ltb-false}
+use native.Mathlib.Nat.{add-zero}
+use lib.ListN.{length, getD, take, drop, replicate, length-append, length-drop, take-append-drop}
+use lib.Seq.{take-all, take-append-seam, length-take-le}
+use lib.Dec.{eqb, leb}
+use borrow.Author.Tests.{eq-eqb, leb-true}
 use Rattle.sharing.specs.Ops.{bits}
-use Rattle.sharing.specs.Sites.{Trio}
+use Rattle.sharing.specs.Sites.{s1, Trio}
 use Rattle.sharing.specs.Circuit.{Circuit, Draws, Errors, no-errors, wires, ands, all-ands}
 use Rattle.sharing.specs.Run.{stop, objects, opened-at, outputs}
 use Rattle.sharing.specs.Tapes.{read}
@@ -26,7 +27,7 @@ use Rattle.sharing.specs.Store.{fill}
 use Rattle.sharing.specs.Traffic.{table-total}
 use Rattle.sharing.proofs.FirstLaws.{Clear}
 use Rattle.sharing.proofs.Clean.{no-objection, thrice}
-use Rattle.sharing.proofs.RunLaws.{stop-none}
+use Rattle.sharing.proofs.RunLaws.{stop-none, outputs-at}
 use Rattle.sharing.proofs.StoreLaws.{fill-rest, fill-length}
 use Rattle.sharing.proofs.TrafficLaws.{table-total-is}
 use Rattle.sharing.proofs.BitLaws.{bit-group}
@@ -53,7 +54,6 @@ use Rattle.checks.proofs.FrontLaws.{one-to-six, circuit-refuses, circuit-passes
 use Rattle.circuit.proofs.CheckedLaws.{both}
 use Rattle.given.specs.Mirror.{slices, found}
 use Rattle.given.proofs.GivenLaws.{found-refuses, nothing, tapes-are, ands-are}
-use Rattle.link.proofs.OpensLaw.{outputs-length}
 use Rattle.text.specs.Mirror.{head-of, lines-of, shown-of, OneDigit}
 use Rattle.text.proofs.TextLaws.{good-lines}
 use Rattle.run.specs.declared.Ran.{Ran}
@@ -61,7 +61,7 @@ use Rattle.run.specs.Answers.{run-after}
 use Rattle.run.specs.Mirror.{Ready}
 use Rattle.listing.specs.declared.Listed.{Listed}
 use Rattle.listing.specs.declared.Listed.the-variants.{Good, Refused}
-use Rattle.listing.specs.Answers.{listed-answer, written, listed-after, Rest}
+use Rattle.listing.specs.Answers.{listed-answer, text-length, listed-after, Rest}
 use Rattle.listing.specs.Mirror.{Fit, says-good, says-refused, says-header, judged, says}
 
 -- ---- the clean line
@@ -129,32 +129,14 @@ module _ (before room T : List ℕ) (n : ℕ) (e : room ≡ fill before T) (k : 
 
   pub told-refused : (N P : ℕ) → T ≡ refused-text N P
       → (listed-after (Refused N P n) room ≡ says-refused N P) × Rest (Refused N P n) before room
-  unfolding listed-answer written
+  unfolding listed-answer text-length
   told-refused N P q = let w : take n room ≡ refused-text N P = front ∙ q in ((λ i. record { answer = refused N P; returned = w i ∷ []; lent = [] }), behind)
 
 -- ---- a good job's text
 -- three bytes an output, site 1's first
 module _ (C : Circuit) (x : ℕ → ℕ) (T : Draws) where
   shown-is : (n o : ℕ) → o < n → shown-of (outputs bits C x T no-errors n) o ≡ opened-at bits C x T no-errors o .at1
-  unfolding outputs
-  shown-is zero o h = absurd (omega arith)
-  shown-is (suc n) o h = go (ltb o n) refl (shown-is n o)
-    where
-      long : length (outputs bits C x T no-errors n) ≡ 3 * n
-      long = outputs-length C x T no-errors n
-
-      go : (b : Bool) → ltb o n ≡ b → (o < n → shown-of (outputs bits C x T no-errors n) o ≡ opened-at bits C x T no-errors o .at1)
-          → shown-of (outputs bits C x T no-errors (suc n)) o ≡ opened-at bits C x T no-errors o .at1
-      go true q ih =
-          let k = ltb-true o n q in let l = long in
-          List·getD-append (outputs bits C x T no-errors n) _ 0 (3 * o) (omega arith) ∙ ih k
-      go false q ih =
-          let k = ltb-false o n q in
-          let e : o ≡ n = omega arith in
-          let u : Trio ℕ = opened-at bits C x T no-errors n in
-          ap (λ (m : ℕ). getD (outputs bits C x T no-errors n ++ (u .at1 ∷ u .at2 ∷ u .at3 ∷ [])) m 0) (ap (λ (m : ℕ). 3 * m) e ∙ sym long)
-          ∙ getD-append-seam (outputs bits C x T no-errors n) (u .at1) (u .at2 ∷ u .at3 ∷ []) 0
-          ∙ ap (λ (m : ℕ). opened-at bits C x T no-errors m .at1) (sym e)
+  shown-is n o h = ap (λ (k : ℕ). getD (outputs bits C x T no-errors n) k 0) (sym (add-zero (3 * o))) ∙ outputs-at bits C x T no-errors o n h s1
 
 -- the lines look at the outputs below their count alone
 lines-same : (s u : ℕ → ℕ) (n : ℕ) → ((o : ℕ) → o < n → s o ≡ u o) → out-lines s n ≡ out-lines u n
@@ -212,7 +194,7 @@ module _ (f : List ℕ) (c : Counts) (a : ℕ) (x t : List ℕ) (d : Fit f c a x
     T = lines-of (c .inputs) (c .gates) (c .outputs) (4 * c .inputs + 12 * a + 3 * c .outputs) (shown-of outs)
 
     pub told-good : room ≡ fill before T → n ≡ length T → (listed-after (Good n) room ≡ says-good f x t) × Rest (Good n) before room
-    unfolding listed-answer written
+    unfolding listed-answer text-length
     told-good q k =
         let w : take n room ≡ good-text C opens = front before room T n q k ∙ text-is in
         ((λ i. record { answer = good []; returned = w i ∷ []; lent = [] }), behind before room T n q k)
@@ -339,8 +321,8 @@ answer-not : (n p : ℕ) → ¬ (good [] ≡ refused n p)
 answer-not n p e = true≢false (sym (ap is-refusal e))
 
 -- the same answer with a text as long is the same case
-one-case : (q r : Listed) → listed-answer q ≡ listed-answer r → written q ≡ written r → q ≡ r
-unfolding listed-answer written
+one-case : (q r : Listed) → listed-answer q ≡ listed-answer r → text-length q ≡ text-length r → q ≡ r
+unfolding listed-answer text-length
 one-case (Good n) (Good m) a e = ap Good e
 one-case (Good n) (Refused N P m) a e = absurd (answer-not N P a)
 one-case (Refused N P n) (Good m) a e = absurd (answer-not N P (sym a))
@@ -354,7 +336,7 @@ pub listing-one : (j before : List ℕ) (q r : Listed) (b d : List ℕ)
     → (q ≡ r) × (b ≡ d)
 listing-one j before q r b d s u =
     let e : listed-after q b ≡ listed-after r d = s .0 ∙ sym (u .0) in
-    let t : take (written q) b ≡ take (written r) d = ap (λ (z : After). getD (z .returned) 0 []) e in
-    let n : written q ≡ written r = sym (length-take-le (written q) b (s .1 .0)) ∙ ap length t ∙ length-take-le (written r) d (u .1 .0) in
-    let z : drop (written q) b ≡ drop (written r) d = s .1 .1 ∙ ap (λ (m : ℕ). drop m before) n ∙ sym (u .1 .1) in
-    (one-case q r (ap (λ (z : After). z .answer) e) n, sym (take-append-drop (written q) b) ∙ ap₂ _++_ t z ∙ take-append-drop (written r) d)
+    let t : take (text-length q) b ≡ take (text-length r) d = ap (λ (z : After). getD (z .returned) 0 []) e in
+    let n : text-length q ≡ text-length r = sym (length-take-le (text-length q) b (s .1 .0)) ∙ ap length t ∙ length-take-le (text-length r) d (u .1 .0) in
+    let z : drop (text-length q) b ≡ drop (text-length r) d = s .1 .1 ∙ ap (λ (m : ℕ). drop m before) n ∙ sym (u .1 .1) in
+    (one-case q r (ap (λ (z : After). z .answer) e) n, sym (take-append-drop (text-length q) b) ∙ ap₂ _++_ t z ∙ take-append-drop (text-length r) d)

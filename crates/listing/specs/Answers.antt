@@ -1,6 +1,6 @@
 -- 01's number and values for each case of a listing's answer, and the text that goes with it. Promises go through this.
 --     listed-answer    the answer
---     written          how many bytes of the room are the text
+--     text-length      how many bytes of the room are the text
 --     listed-after     the answer, with the text: the front of the room
 --     Rest             what stands behind the text is as it was
 use mathlib.Core.Path.{_≡_}
@@ -15,12 +15,12 @@ unfoldable pub listed-answer : Listed → Answer
 listed-answer (Good n) = good []
 listed-answer (Refused n p m) = refused n p
 
-unfoldable pub written : Listed → ℕ
-written (Good n) = n
-written (Refused n p m) = m
+unfoldable pub text-length : Listed → ℕ
+text-length (Good n) = n
+text-length (Refused n p m) = m
 
 abbrev pub listed-after : Listed → List ℕ → After
-listed-after r room = record { answer = listed-answer r; returned = take (written r) room ∷ []; lent = [] }
+listed-after r room = record { answer = listed-answer r; returned = take (text-length r) room ∷ []; lent = [] }
 
 abbrev pub Rest : Listed → List ℕ → List ℕ → Type 0
-Rest r before room = (written r ≤ length room) × (drop (written r) room ≡ drop (written r) before)
+Rest r before room = (text-length r ≤ length room) × (drop (text-length r) room ≡ drop (text-length r) before)

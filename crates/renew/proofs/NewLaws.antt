@@ -8,7 +8,7 @@
 -- Assumes nothing.
 use mathlib.Core.Path.{_≡_, refl, sym, ap, ap₂, _∙_, subst}
 use mathlib.Core.Bool.{Bool, false, cond}
-use mathlib.Core.List.{List, [], _∷_, _++_, map, append-assoc, append-nil}
+use mathlib.Core.List.{List, [], _∷_, _++_, append-assoc, append-nil}
 use Prim.Native.Nat.{ℕ, zero, suc, _+_, _*_, _-_, _≤_, _<_}
 use native.Mathlib.Omega.{arith}
 use lib.ListN.{length, getD, take, drop, length-append}
@@ -16,16 +16,17 @@ use Rattle.sharing.specs.Ops.{bits}
 use Rattle.sharing.specs.Sites.{Site, s1, s2, s3, next, prev, Trio, of, is, if-own}
 use Rattle.sharing.specs.Circuit.{Circuit, Draws, no-errors, ands, all-ands, owned, all-owned}
 use Rattle.sharing.specs.Order.{if-deals}
-use Rattle.sharing.specs.Published.{Parts, parts}
-use Rattle.sharing.specs.Steps.{Pair, Wire, hold}
+use Rattle.sharing.specs.Published.{parts}
+use Rattle.sharing.specs.Steps.{Wire}
 use Rattle.sharing.specs.Run.{after}
-use Rattle.sharing.specs.Tapes.{tape-length, cut, join, draws, read, ins-tape, tape, written}
+use Rattle.sharing.specs.Tapes.{tape-length, tapes-sum, cut, join, draws, read, ins-tape, tape, written}
 use Rattle.sharing.specs.Retape.{mine, shift, retape, new-tapes}
 use Rattle.sharing.specs.Store.{side}
 use Rattle.sharing.proofs.BitLaws.{bit-group}
 use Rattle.sharing.proofs.Clean.{held}
 use Rattle.sharing.proofs.SiteLaws.{Seen, itself, behind, before, seen, by-site, own-behind, own-before}
-use Rattle.sharing.proofs.TapeLaws.{Sized, tapes-sum, tapes-length, cut-sized, join-cut, read-tape}
+use Rattle.sharing.proofs.StoreLaws.{side-held}
+use Rattle.sharing.proofs.TapeLaws.{Sized, tapes-length, cut-sized, join-cut, read-tape}
 use Rattle.scope.specs.File.{site-of, circuit}
 use Rattle.scope.specs.Checks.{tapes-want}
 use Rattle.scope.specs.Calls.{at-wire, both-plain, work-room}
@@ -130,13 +131,6 @@ module _ (s : Site) (C : Circuit) (xs ys t : List ℕ) (h : length t ≡ tapes-s
   seen-whole : (ls : Trio (List ℕ)) → around s (of ls s) (of ls (next s)) (of ls (prev s)) ≡ ls
   seen-whole ls = by-site (λ s. around s (of ls s) (of ls (next s)) (of ls (prev s)) ≡ ls) refl refl refl s
 
-  side-held : (ps : List Parts) → side (λ (w : Wire). of w s) (map hold ps) ≡ side (mine s) ps
-  unfolding side
-  side-held [] = refl
-  side-held (P ∷ ps) =
-      let e : of (hold P) s ≡ mine s P = by-site (λ s. of (hold P) s ≡ mine s P) refl refl refl s in
-      λ i. e i .0 ∷ e i .1 ∷ side-held ps i
-
   module _ (own nx pv room moved : List ℕ) (eo : own ≡ of (cut C t) s) (en : nx ≡ of (cut C t) (next s)) (ep : pv ≡ of (cut C t) (prev s))
       (w : Walked s C xs ys own nx pv room moved) where
     drawn-is : draws C (around s own nx pv) ≡ read C t
@@ -153,7 +147,7 @@ module _ (s : Site) (C : Circuit) (xs ys t : List ℕ) (h : length t ≡ tapes-s
     pairs-in =
         w .pairs-are
         ∙ ap (λ (T : Draws). both-plain C xs ys ++ side (mine s) (parts bits C (at-wire xs) T (C .gates))) drawn-is
-        ∙ ap (λ (l : List ℕ). both-plain C xs ys ++ l) (sym (side-held (parts bits C (at-wire xs) (read C t) (C .gates))))
+        ∙ ap (λ (l : List ℕ). both-plain C xs ys ++ l) (sym (side-held s (parts bits C (at-wire xs) (read C t) (C .gates))))
         ∙ ap (λ (l : List Wire). both-plain C xs ys ++ side (λ (w : Wire). of w s) l) (sym (held bit-group C (at-wire xs) (read C t) (bit-draws (read C t)) (C .gates)))
 
 pub room-is : (C : Circuit) (x t y : List ℕ) (site : ℕ) (room : List ℕ)

@@ -22,14 +22,14 @@ use Rattle.sharing.specs.Line.{errors}
 use Rattle.sharing.specs.Store.{store, fill}
 use Rattle.sharing.proofs.FirstLaws.{first-at, first-none, first-le, first-hit, first-before, first-clear}
 use Rattle.sharing.proofs.StoreLaws.{fill-all}
-use Rattle.sharing.proofs.RunLaws.{quiet-made, stop-le}
+use Rattle.sharing.proofs.RunLaws.{quiet-made, stop-le, outputs-length}
 use Rattle.scope.specs.File.{circuit}
 use Rattle.scope.specs.Answer.{good, abort, After}
 use Rattle.scope.specs.Calls.{at-wire, ran}
 use Rattle.scope.proofs.RunCall.{ran-quiet, ran-stopped}
 use Rattle.header.specs.declared.Counts.{Counts}
 use Rattle.engine.specs.Mirror.{objects-on, opens-on, hands-on}
-use Rattle.link.proofs.OpensLaw.{objects-law, opens-law, hands-law, outputs-length}
+use Rattle.link.proofs.OpensLaw.{objects-law, opens-law, hands-law}
 use Rattle.run.specs.declared.Ran.the-variants.{Good, Abort}
 use Rattle.run.specs.Answers.{run-answer, run-after}
 use Rattle.given.specs.Mirror.{counts-of}
@@ -123,7 +123,7 @@ module _ (f xs tapes line tr outs s t : List ℕ) (x p l o r q : ℕ) (d : Ready
         let H : o′ ≡ outputs bits C X T E (C .outs)
         = e ∙ ap (λ (z : List ℕ). hands-on f z s n at outs (C .outs)) R
         ∙ hands-law f line X T n refl s es tr (made bits C X T E) outs (C .outs) (omega arith) below (omega arith)
-        ∙ fill-all outs (outputs bits C X T E (C .outs)) (outputs-length C X T E (C .outs) ∙ omega arith) in
+        ∙ fill-all outs (outputs bits C X T E (C .outs)) (outputs-length bits C X T E (C .outs) ∙ omega arith) in
         (λ i. record { answer = good []; returned = []; lent = H i ∷ R i ∷ es i ∷ [] }) ∙ sym (ran-quiet C X T E outs tr Q)
 
 -- and so at the counts and the place that the code holds

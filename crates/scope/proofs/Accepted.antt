@@ -1,26 +1,27 @@
 -- What an accepted call has been given: the facts that later laws cite, so that none of them unfolds the checks.
 --     Sound f                       refusals 1 to 6 hold nowhere in the file
 --     SiteOk s                      the site is 1, 2 or 3
---     RunOk, run-ok                 a run's inputs, tapes, line and buffers
---     ViewOk, view-ok, ok-view      a view's; and back: what has them is accepted
+--     front                         1 to 8, which all calls on inputs and tapes make
+--     RunOk, run-ok, ok-run         a run's inputs, tapes, line and buffers; and back: what has them is accepted
+--     ViewOk, view-ok, ok-view      a view's
 --     RetapeOk, retape-ok, ok-retape    re-taping's
 --     refused-13, unkept-refused    re-taping is refused with 13 exactly where own inputs or opened bits are not kept
 --     ListingOk, listing-ok         a listing's;  check-sound: a checked file's
 -- Assumes nothing.
-use mathlib.Core.Path.{_≡_, refl, sym, ap, _∙_}
-use mathlib.Core.Bool.{Bool, true, false, not}
+use mathlib.Core.Path.{_≡_, _∙_}
+use mathlib.Core.Bool.{not}
 use mathlib.Core.List.{List, [], _∷_}
 use Prim.Native.Nat.{ℕ, zero, suc, _+_, _*_, _<_}
 use native.Mathlib.Omega.{arith}
 use lib.ListN.{length, getD}
 use lib.Dec.{lit<}
-use Rattle.sharing.specs.Circuit.{Circuit, wires, all-ands, all-owned}
+use Rattle.sharing.specs.Circuit.{wires, all-ands, all-owned}
 use Rattle.sharing.proofs.FirstLaws.{Clear}
 use Rattle.scope.specs.File.{inputs-of, site-of, circuit}
 use Rattle.scope.specs.Answer.{refused}
-use Rattle.scope.specs.Checks.{Given, Holds, tested, one-to-three, tapes-want, line-want, row, refusal-table, fault, verdict, refuses}
+use Rattle.scope.specs.Checks.{whole, Holds, tested, one-to-three, tapes-want, line-want, row, refusal-table, fault}
 use Rattle.scope.specs.Refusal.{position, FirstRefusal, stands-in, those-of}
-use Rattle.scope.specs.Calls.{Call, Check, Run, View, Retape, Listing, given-of, concerns, order, does, Accepts, run-wants, view-wants, retape-wants, job-file, job-inputs, job-tapes}
+use Rattle.scope.specs.Calls.{Call, Check, Run, View, Retape, Listing, given, given-of, concerns, order, does, Accepts, run-wants, view-wants, retape-wants, job-file, job-inputs, job-tapes}
 use Rattle.scope.proofs.Refusals.{Clears, Passes, clears-none, verdict-first, first-passes, verdict-skips, verdict-last}
 use Rattle.scope.specs.Statements.{Bits, Keeps}
 use Rattle.scope.proofs.RowLaws.{bits-clear, clear-bits, sizes-clear, clear-sizes, keeps-clear, clear-keeps}
@@ -41,6 +42,17 @@ two-sizes : (a b p q : ℕ) → a ≡ p → b ≡ q → (k : ℕ) → k < 2 → 
 two-sizes a b p q e h zero l = e
 two-sizes a b p q e h (suc zero) l = h
 two-sizes a b p q e h (suc (suc k)) l = absurd (omega arith)
+
+three-sizes : (a b c p q r : ℕ) → a ≡ p → b ≡ q → c ≡ r → (k : ℕ) → k < 3 → getD (a ∷ b ∷ c ∷ []) k 0 ≡ getD (p ∷ q ∷ r ∷ []) k 0
+three-sizes a b c p q r e h g zero l = e
+three-sizes a b c p q r e h g (suc k) l = two-sizes b c q r h g k (omega arith)
+
+-- 1 to 8 pass; ns are the call's further checks
+front : (f x t l y : List ℕ) (s : ℕ) (bufs : List (List ℕ)) (wants j ns : List ℕ) → let g = given whole f x t l y s bufs wants j in
+    Sound f → Bits x (inputs-of f) → Bits t (tapes-want (circuit f)) → Passes g ns → Passes g (1 ∷ 2 ∷ 3 ∷ 4 ∷ 5 ∷ 6 ∷ 7 ∷ 8 ∷ ns)
+unfolding Passes given-of row refusal-table
+front f x t l y s bufs wants j ns k bx bt h =
+    (k .c1, (k .c2, (k .c3, (k .c4, (k .c5, (k .c6, (clear-bits x (inputs-of f) bx, (clear-bits t (tapes-want (circuit f)) bt, h))))))))
 
 module _ (f x t l outs tr st : List ℕ) where
   pub record RunOk : Type 0 where
@@ -66,6 +78,15 @@ module _ (f x t l outs tr st : List ℕ) where
         tr-long = sizes 1 (omega arith);
         st-long = sizes 2 (omega arith);
       }
+
+  pub ok-run : RunOk → Accepts (Run f x t l outs tr st)
+  unfolding Passes order concerns those-of stands-in given-of row refusal-table
+  ok-run k =
+      passes-accepts (Run f x t l outs tr st)
+      (front f x t l [] 0 (outs ∷ tr ∷ st ∷ []) (run-wants (circuit f)) [] (9 ∷ 10 ∷ []) (k .sound) (k .in-x) (k .in-t) (
+        clear-bits l (line-want (circuit f)) (k .in-l),
+        (clear-sizes (length outs ∷ length tr ∷ length st ∷ []) (run-wants (circuit f)) 3 (three-sizes _ _ _ _ _ _ (k .outs-long) (k .tr-long) (k .st-long)), tt),
+      ))
 
 module _ (f x t : List ℕ) (s : ℕ) (v st : List ℕ) where
   pub record ViewOk : Type 0 where
@@ -93,34 +114,11 @@ module _ (f x t : List ℕ) (s : ℕ) (v st : List ℕ) where
   pub ok-view : ViewOk → Accepts (View f x t s v st)
   unfolding Passes order concerns those-of stands-in given-of row refusal-table
   ok-view k =
-      passes-accepts (View f x t s v st) (
-        k .sound .c1,
-        (
-          k .sound .c2,
-          (
-            k .sound .c3,
-            (
-              k .sound .c4,
-              (
-                k .sound .c5,
-                (
-                  k .sound .c6,
-                  (
-                    clear-bits x (inputs-of f) (k .in-x),
-                    (
-                      clear-bits t (tapes-want (circuit f)) (k .in-t),
-                      (
-                        k .site,
-                        (clear-sizes (length v ∷ length st ∷ []) (view-wants (circuit f) s) 2 (two-sizes _ _ _ _ (k .v-long) (k .st-long)), tt),
-                      ),
-                    ),
-                  ),
-                ),
-              ),
-            ),
-          ),
-        ),
-      )
+      passes-accepts (View f x t s v st)
+      (front f x t [] [] s (v ∷ st ∷ []) (view-wants (circuit f) s) [] (11 ∷ 10 ∷ []) (k .sound) (k .in-x) (k .in-t) (
+        k .site,
+        (clear-sizes (length v ∷ length st ∷ []) (view-wants (circuit f) s) 2 (two-sizes _ _ _ _ (k .v-long) (k .st-long)), tt),
+      ))
 
 module _ (f x t y : List ℕ) (s : ℕ) (nt wr : List ℕ) where
   -- all but 13
@@ -172,43 +170,21 @@ module _ (f x t y : List ℕ) (s : ℕ) (nt wr : List ℕ) where
         keeps = keeps-clear (site-of s) (circuit f) x y (h .1 .1 .1 .1 .1 .1 .1 .1 .1 .1 .1 .0);
       }
 
-  pub ok-retape : RetapeOk → Accepts called
-  unfolding Passes order concerns those-of stands-in given-of row refusal-table
-  ok-retape k =
-      passes-accepts called (
-        k .given .sound .c1,
+  -- every check of re-taping but 13; ns is 13 or nothing
+  but-13 : (ns : List ℕ) → RetapeGiven → Passes (given-of called) ns → Passes (given-of called) (1 ∷ 2 ∷ 3 ∷ 4 ∷ 5 ∷ 6 ∷ 7 ∷ 8 ∷ 11 ∷ 10 ∷ 12 ∷ ns)
+  unfolding Passes given-of row refusal-table
+  but-13 ns k h =
+      front f x t [] y s (nt ∷ wr ∷ []) (retape-wants (circuit f)) [] (11 ∷ 10 ∷ 12 ∷ ns) (k .sound) (k .in-x) (k .in-t) (
+        k .site,
         (
-          k .given .sound .c2,
-          (
-            k .given .sound .c3,
-            (
-              k .given .sound .c4,
-              (
-                k .given .sound .c5,
-                (
-                  k .given .sound .c6,
-                  (
-                    clear-bits x (inputs-of f) (k .given .in-x),
-                    (
-                      clear-bits t (tapes-want (circuit f)) (k .given .in-t),
-                      (
-                        k .given .site,
-                        (
-                          clear-sizes (length nt ∷ length wr ∷ []) (retape-wants (circuit f)) 2 (two-sizes _ _ _ _ (k .given .nt-long) (k .given .wr-long)),
-                          (
-                            clear-bits y (inputs-of f) (k .given .in-y),
-                            (clear-keeps (site-of s) (circuit f) x y (k .keeps), tt),
-                          ),
-                        ),
-                      ),
-                    ),
-                  ),
-                ),
-              ),
-            ),
-          ),
+          clear-sizes (length nt ∷ length wr ∷ []) (retape-wants (circuit f)) 2 (two-sizes _ _ _ _ (k .nt-long) (k .wr-long)),
+          (clear-bits y (inputs-of f) (k .in-y), h),
         ),
       )
+
+  pub ok-retape : RetapeOk → Accepts called
+  unfolding Passes order concerns those-of stands-in given-of row refusal-table
+  ok-retape k = passes-accepts called (but-13 (13 ∷ []) (k .given) (clear-keeps (site-of s) (circuit f) x y (k .keeps), tt))
 
   -- refused with 13: all else is as it should be, and own inputs or opened bits are not kept
   pub record Refused13 (p : ℕ) : Type 0 where
@@ -229,41 +205,10 @@ module _ (f x t y : List ℕ) (s : ℕ) (nt wr : List ℕ) where
   unfolding Passes order concerns those-of stands-in given-of row refusal-table
   unkept-refused k h =
       let g = given-of called in
-      let front : Passes g (1 ∷ 2 ∷ 3 ∷ 4 ∷ 5 ∷ 6 ∷ 7 ∷ 8 ∷ 11 ∷ 10 ∷ 12 ∷ []) = (
-        k .sound .c1,
-        (
-          k .sound .c2,
-          (
-            k .sound .c3,
-            (
-              k .sound .c4,
-              (
-                k .sound .c5,
-                (
-                  k .sound .c6,
-                  (
-                    clear-bits x (inputs-of f) (k .in-x),
-                    (
-                      clear-bits t (tapes-want (circuit f)) (k .in-t),
-                      (
-                        k .site,
-                        (
-                          clear-sizes (length nt ∷ length wr ∷ []) (retape-wants (circuit f)) 2 (two-sizes _ _ _ _ (k .nt-long) (k .wr-long)),
-                          (clear-bits y (inputs-of f) (k .in-y), tt),
-                        ),
-                      ),
-                    ),
-                  ),
-                ),
-              ),
-            ),
-          ),
-        ),
-      ) in (
+      let front12 : List ℕ = 1 ∷ 2 ∷ 3 ∷ 4 ∷ 5 ∷ 6 ∷ 7 ∷ 8 ∷ 11 ∷ 10 ∷ 12 ∷ [] in (
         fault (row g 13),
         verdict-refused called 13 (fault (row g 13))
-            (verdict-skips g (1 ∷ 2 ∷ 3 ∷ 4 ∷ 5 ∷ 6 ∷ 7 ∷ 8 ∷ 11 ∷ 10 ∷ 12 ∷ []) (13 ∷ []) front
-            ∙ verdict-last g 13 (λ c. h (keeps-clear (site-of s) (circuit f) x y c))),
+            (verdict-skips g front12 (13 ∷ []) (but-13 [] k tt) ∙ verdict-last g 13 (λ c. h (keeps-clear (site-of s) (circuit f) x y c))),
       )
 
 -- a listing's job

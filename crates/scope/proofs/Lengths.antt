@@ -2,33 +2,31 @@
 --     good-lengths      of an accepted call
 --     lent-lengths      of any call
 -- Assumes nothing.
-use mathlib.Core.Path.{_≡_, refl, sym, ap, ap₂, _∙_}
+use mathlib.Core.Path.{_≡_, refl, sym, ap, _∙_}
 use mathlib.Core.Bool.{Bool, true, false, cond}
-use mathlib.Core.List.{List, [], _∷_, _++_, map}
-use Prim.Native.Nat.{ℕ, zero, suc, _+_, _*_, _≤_}
+use mathlib.Core.List.{List, [], _∷_, map}
+use Prim.Native.Nat.{ℕ, _*_}
 use native.Mathlib.Omega.{arith}
-use lib.ListN.{length, getD, length-append}
+use lib.ListN.{length, length-append}
 use lib.Dec.{eqb, ltb}
 use borrow.Author.Tests.{eqb-true}
-use Rattle.sharing.specs.Ops.{Ops, bits}
-use Rattle.sharing.specs.Sites.{Site, of}
+use Rattle.sharing.specs.Ops.{bits}
+use Rattle.sharing.specs.Sites.{of}
 use Rattle.sharing.specs.Circuit.{Circuit, Draws, Errors, no-errors, wires}
 use Rattle.sharing.specs.Steps.{Wire}
 use Rattle.sharing.specs.Run.{after, stop, opens-delivered, made, transcript, outputs}
 use Rattle.sharing.specs.Tapes.{read}
 use Rattle.sharing.specs.Line.{at-output, errors}
-use Rattle.sharing.specs.Store.{side, store, fill}
-use Rattle.sharing.specs.View.{view-from}
-use Rattle.sharing.specs.Retape.{new-tapes}
+use Rattle.sharing.specs.Store.{store}
 use Rattle.sharing.proofs.BitLaws.{bit-group}
-use Rattle.sharing.proofs.RunLaws.{after-length, sent-length, made-le}
+use Rattle.sharing.proofs.RunLaws.{after-length, sent-length, made-le, outputs-length}
 use Rattle.sharing.proofs.StoreLaws.{store-length, side-length, fill-length}
 use Rattle.sharing.proofs.ViewLaws.{view-length}
 use Rattle.sharing.proofs.RetapeLaws.{new-length}
 use Rattle.sharing.proofs.TapeLaws.{tapes-length}
 use Rattle.scope.specs.File.{circuit, site-of}
 use Rattle.scope.specs.Plain.{plain}
-use Rattle.scope.specs.Answer.{Answer, good, abort, refused, After}
+use Rattle.scope.specs.Answer.{refused, After}
 use Rattle.scope.specs.Checks.{line-want, Verdict, accepted, refuses, verdict, row, refusal-table}
 use Rattle.scope.specs.Refusal.{stands-in, those-of}
 use Rattle.scope.specs.Calls.{Call, Open, GateAt, OwnerAt, OutputAt, Check, Traffic, Plain, Run, View, Retape, Listing, given-of, concerns, order, lent-before, lent-at-13, when-good, when-refused, ran, does, Accepts, at-wire, both-plain, work-room}
@@ -47,11 +45,6 @@ two p q = λ i. p i ∷ q i ∷ []
 
 three : {a b c d e f : ℕ} → a ≡ d → b ≡ e → c ≡ f → _≡_ {A = List ℕ} (a ∷ b ∷ c ∷ []) (d ∷ e ∷ f ∷ [])
 three p q r = λ i. p i ∷ q i ∷ r i ∷ []
-
-outputs-length : (R : Ops) (C : Circuit) (x : ℕ → ℕ) (T : Draws) (E : Errors) (n : ℕ) → length (outputs R C x T E n) ≡ 3 * n
-unfolding outputs
-outputs-length R C x T E zero = refl
-outputs-length R C x T E (suc n) = length-append (outputs R C x T E n) _ ∙ (let k = outputs-length R C x T E n in omega arith)
 
 store-long : (C : Circuit) (x : ℕ → ℕ) (T : Draws) (E : Errors) → length (store (after bits C x T E (C .gates))) ≡ 6 * wires C
 store-long C x T E = store-length (after bits C x T E (C .gates)) ∙ (let k = after-length bits C x T E (C .gates) in omega arith)

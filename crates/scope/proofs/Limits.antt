@@ -1,22 +1,22 @@
 -- What the checks of a file give: its limits.
---     Limits, limits    I, G, O are within 01's limits, and the file has the length that they ask for
+--     Limits, limits    I, G, O are within 01's limits, and the file has the length that they ask for: what passes 2 and 3
 --     small-file        "so a file has at most 20,000 bytes"
 --     small-line        line and transcript have "at most 42,496"
 --     small-tapes       tapes have at most 20,480
 -- Assumes nothing.
-use mathlib.Core.Path.{_≡_, refl, sym, _∙_}
-use mathlib.Core.Bool.{Bool, true, false, not, _&&_, _||_}
-use mathlib.Core.List.{List, []}
-use Prim.Native.Nat.{ℕ, zero, suc, _+_, _*_, _≤_}
+use mathlib.Core.Path.{_≡_, refl, _∙_}
+use mathlib.Core.Bool.{Bool, true, false, _&&_, _||_}
+use mathlib.Core.List.{List}
+use Prim.Native.Nat.{ℕ, zero, suc, _≤_}
 use native.Mathlib.Omega.{arith}
 use lib.ListN.{length}
-use lib.Dec.{leb, eqb}
+use lib.Dec.{eqb}
 use borrow.Author.Tests.{leb-true, eqb-true, not-false}
-use Rattle.sharing.specs.Circuit.{Gate, XOR, AND, OR, NOT, dealing, ands, all-ands}
+use Rattle.sharing.specs.Circuit.{Gate, XOR, AND, OR, NOT, dealing, ands}
 use Rattle.scope.specs.File.{le32, inputs-of, gates-of, outputs-of, size, circuit}
 use Rattle.scope.specs.Checks.{tested, tapes-want, line-want, row, refusal-table}
-use Rattle.scope.specs.Calls.{given-of}
-use Rattle.scope.proofs.Accepted.{Sound}
+use Rattle.scope.specs.Calls.{Open, given-of}
+use Rattle.scope.proofs.Refusals.{Clears}
 
 or-first : (a b : Bool) → (a || b) ≡ false → a ≡ false
 or-first true b e = e
@@ -39,14 +39,14 @@ pub record Limits (f : List ℕ) : Type 0 where
   pub few-outputs : outputs-of f ≤ 256
   pub as-long : length f ≡ size (inputs-of f) (gates-of f) (outputs-of f)
 
-pub limits : (f : List ℕ) → Sound f → Limits f
+pub limits : (f : List ℕ) → Clears (given-of (Open f)) 2 → Clears (given-of (Open f)) 3 → Limits f
 unfolding given-of row refusal-table tested
-limits f s = record {
-  few-inputs = leb-true _ _ (not-false _ (or-first _ _ (s .c2 0 (omega arith))));
-  few-gates = leb-true _ _ (not-false _ (or-first _ _ (s .c2 1 (omega arith))));
-  few-outputs = leb-true _ _ (not-false _ (or-first _ _ (s .c2 2 (omega arith))));
+limits f c2 c3 = record {
+  few-inputs = leb-true _ _ (not-false _ (or-first _ _ (c2 0 (omega arith))));
+  few-gates = leb-true _ _ (not-false _ (or-first _ _ (c2 1 (omega arith))));
+  few-outputs = leb-true _ _ (not-false _ (or-first _ _ (c2 2 (omega arith))));
   as-long =
-      let e = not-false (eqb (le32 f 0) (size (inputs-of f) (gates-of f) (outputs-of f)) && eqb (length f) (le32 f 0)) (or-first _ _ (s .c3 0 (omega arith))) in
+      let e = not-false (eqb (le32 f 0) (size (inputs-of f) (gates-of f) (outputs-of f)) && eqb (length f) (le32 f 0)) (or-first _ _ (c3 0 (omega arith))) in
       eqb-true _ _ (and-second (eqb (le32 f 0) (size (inputs-of f) (gates-of f) (outputs-of f))) _ e)
       ∙ eqb-true _ _ (and-first _ (eqb (length f) (le32 f 0)) e);
 }

@@ -5,21 +5,21 @@
 --     Clears, Passes    no condition of a number holds; of none of an order's numbers
 --     accepted-passes, passes-accepted    the verdict is accepted exactly when none holds
 --     verdict-skips, verdict-stays    what passes may be left out in front; a refusal stays, whatever is checked after it
+--     order-kept, concerns-it         of one order those that stand in a list: any two of them stand as they do in the whole order
 --     row-refuses, row-passes         a verdict from its first row, by a number that is the row's fault
 -- Assumes nothing.
 use mathlib.Core.Path.{_≡_, refl, sym, ap, ap₂, _∙_, subst}
 use mathlib.Core.Bool.{Bool, true, false, cond, true≢false}
 use mathlib.Core.Logic.{_↔_}
 use mathlib.Core.List.{List, [], _∷_, _++_}
-use Prim.Native.Nat.{ℕ, zero, suc, _<_, _≤_}
+use Prim.Native.Nat.{ℕ, suc, _<_, _≤_}
 use native.Mathlib.Omega.{arith}
 use lib.ListN.{length}
 use lib.Dec.{ltb, eqb}
 use borrow.Author.Tests.{ltb-true, ltb-false, lt-ltb, le-ltb, eqb-true, eqb-false, eq-eqb, ne-eqb}
-use Rattle.sharing.specs.First.{first}
-use Rattle.sharing.proofs.FirstLaws.{Clear, first-at, first-none, first-le, first-hit, first-before, first-clear}
+use Rattle.sharing.proofs.FirstLaws.{Clear, first-at, first-none, first-hit, first-before, first-clear}
 use Rattle.scope.specs.Checks.{Given, Row, row, Holds, Verdict, accepted, refuses, fault, verdict}
-use Rattle.scope.specs.Refusal.{position, FirstRefusal}
+use Rattle.scope.specs.Refusal.{position, stands-in, those-of, FirstRefusal}
 
 -- no condition of number n holds
 abbrev pub Clears : Given → ℕ → Type 0
@@ -40,6 +40,68 @@ none-clears g n h p l = go (row g n .bad p) refl
 unfoldable pub Passes : Given → List ℕ → Type 0
 Passes g [] = Unit {0}
 Passes g (n ∷ ns) = Clears g n × Passes g ns
+
+position-here : (n : ℕ) (ns : List ℕ) → position (n ∷ ns) n ≡ 0
+unfolding position
+position-here n ns = rw (eq-eqb n n refl)
+
+position-next : (n m : ℕ) (ns : List ℕ) → ¬ (n ≡ m) → position (n ∷ ns) m ≡ suc (position ns m)
+unfolding position
+position-next n m ns h = rw (ne-eqb n m h)
+
+-- the numbers of an order that stand in a list
+module _ (ns : List ℕ) where
+  kept : (m : ℕ) (ms : List ℕ) → stands-in m ns ≡ true → those-of ns (m ∷ ms) ≡ m ∷ those-of ns ms
+  unfolding those-of
+  kept m ms e = rw e
+
+  dropped : (m : ℕ) (ms : List ℕ) → stands-in m ns ≡ false → those-of ns (m ∷ ms) ≡ those-of ns ms
+  unfolding those-of
+  dropped m ms e = rw e
+
+  -- a number that stands among them stands in the list
+  pub concerns-it : (ms : List ℕ) (N : ℕ) → position (those-of ns ms) N < length (those-of ns ms) → stands-in N ns ≡ true
+  unfolding those-of
+  concerns-it [] N h = absurd (omega arith)
+  concerns-it (m ∷ ms) N h = go (stands-in m ns) refl (eqb m N) refl (concerns-it ms N)
+    where
+      go : (b : Bool) → stands-in m ns ≡ b → (c : Bool) → eqb m N ≡ c → (position (those-of ns ms) N < length (those-of ns ms) → stands-in N ns ≡ true) → stands-in N ns ≡ true
+      go true e true q ih = ap (λ (z : ℕ). stands-in z ns) (sym (eqb-true m N q)) ∙ e
+      go true e false q ih =
+          ih (let k = subst (λ (l : List ℕ). position l N < length l) (kept m ms e) h in let p = position-next m N (those-of ns ms) (eqb-false m N q) in omega arith)
+      go false e c q ih = ih (subst (λ (l : List ℕ). position l N < length l) (dropped m ms e) h)
+
+  -- two numbers of the list stand in the same order among them as in the whole
+  module _ (M N : ℕ) (hM : stands-in M ns ≡ true) (hN : stands-in N ns ≡ true) where
+    abbrev Before : List ℕ → Type 0
+    Before l = position l M < position l N
+
+    -- one number in front of both
+    front-kept : (m : ℕ) (l l′ : List ℕ) → (Before l → Before l′) → Before (m ∷ l) → Before (m ∷ l′)
+    unfolding position
+    front-kept m l l′ e = go (eqb m M) (eqb m N)
+      where
+        go : (b c : Bool) → cond b 0 (suc (position l M)) < cond c 0 (suc (position l N)) → cond b 0 (suc (position l′ M)) < cond c 0 (suc (position l′ N))
+        go true true h = h
+        go true false h = omega arith
+        go false true h = absurd (omega arith)
+        go false false h = let k = e (omega arith) in omega arith
+
+    -- one that is neither of the two
+    other : (m : ℕ) → stands-in m ns ≡ false → (n : ℕ) → stands-in n ns ≡ true → ¬ (m ≡ n)
+    other m e n h q = true≢false (sym h ∙ ap (λ (z : ℕ). stands-in z ns) (sym q) ∙ e)
+
+    pub order-kept : (ms : List ℕ) → Before (those-of ns ms) ↔ Before ms
+    unfolding those-of
+    order-kept [] = (λ h. h, λ h. h)
+    order-kept (m ∷ ms) = go (stands-in m ns) refl (order-kept ms)
+      where
+        go : (b : Bool) → stands-in m ns ≡ b → Before (those-of ns ms) ↔ Before ms → Before (those-of ns (m ∷ ms)) ↔ Before (m ∷ ms)
+        go true e ih = subst (λ (l : List ℕ). Before l ↔ Before (m ∷ ms)) (sym (kept m ms e)) (front-kept m _ _ (ih .0), front-kept m _ _ (ih .1))
+        go false e ih =
+            let p = position-next m M ms (other m e M hM) in
+            let q = position-next m N ms (other m e N hN) in
+            subst (λ (l : List ℕ). Before l ↔ Before (m ∷ ms)) (sym (dropped m ms e)) (λ h. (let k = ih .0 h in omega arith), λ h. ih .1 (omega arith))
 
 module _ (g : Given) where
   -- a fault below the span is a place at which the condition holds, and none before it does
@@ -79,14 +141,6 @@ module _ (g : Given) where
   verdict-next : (n : ℕ) (ns : List ℕ) → row g n .span ≤ fault (row g n) → verdict g (n ∷ ns) ≡ verdict g ns
   unfolding verdict
   verdict-next n ns h = rw (le-ltb _ _ h)
-
-  position-here : (n : ℕ) (ns : List ℕ) → position (n ∷ ns) n ≡ 0
-  unfolding position
-  position-here n ns = rw (eq-eqb n n refl)
-
-  position-next : (n m : ℕ) (ns : List ℕ) → ¬ (n ≡ m) → position (n ∷ ns) m ≡ suc (position ns m)
-  unfolding position
-  position-next n m ns h = rw (ne-eqb n m h)
 
   first-now : (n : ℕ) (ns : List ℕ) → fault (row g n) < row g n .span → FirstRefusal g (n ∷ ns) n (fault (row g n))
   first-now n ns h = record {

@@ -22,7 +22,7 @@ use Rattle.sharing.specs.Retape.{new-tapes}
 use Rattle.sharing.specs.Values.{values}
 use Rattle.sharing.proofs.BitLaws.{bit-group, bit-closed}
 use Rattle.sharing.proofs.RetapeLaws as L
-use Rattle.sharing.proofs.TapeLaws.{tapes-sum, tapes-length}
+use Rattle.sharing.proofs.TapeLaws.{tapes-length}
 use Rattle.sharing.proofs.ViewLaws.{Shown}
 use Rattle.scope.specs.File.{inputs-of, site-of, circuit}
 use Rattle.scope.specs.Plain.{plain, plain-out}

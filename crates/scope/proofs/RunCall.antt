@@ -6,39 +6,37 @@
 --     six-delivered     the copies of an output are the delivered bits at their places
 -- Assumes nothing.
 use mathlib.Core.Path.{_≡_, refl, sym, ap, ap₂, _∙_}
-use mathlib.Core.Bool.{Bool, true, false, cond, true≢false}
+use mathlib.Core.Bool.{Bool, true, false, true≢false}
 use mathlib.Core.Logic.{⊎-elim}
 use mathlib.Core.List.{List, [], _∷_, _++_, map}
-use Prim.Native.Nat.{ℕ, zero, suc, _+_, _*_, _<_, _≤_}
+use Prim.Native.Nat.{ℕ, zero, suc, _+_, _<_}
 use native.Mathlib.Omega.{arith}
 use native.Mathlib.Nat.{eq-or-lt-of-le}
 use lib.ListN.{length, getD, take, drop}
 use lib.Seq.{getD-take, getD-drop}
-use lib.Dec.{ltb}
 use borrow.Author.Tests.{lt-ltb, le-ltb}
 use Rattle.sharing.specs.Ops.{bits}
-use Rattle.sharing.specs.Sites.{Site, of, Trio}
-use Rattle.sharing.specs.Circuit.{Circuit, Draws, Errors, no-errors, wires}
-use Rattle.sharing.specs.Published.{parts, sent-bits, no-parts, total}
-use Rattle.sharing.specs.Steps.{Pair, Wire, hold, copies, objecting}
+use Rattle.sharing.specs.Sites.{Trio}
+use Rattle.sharing.specs.Circuit.{Circuit, Draws, Errors, no-errors}
+use Rattle.sharing.specs.Published.{parts, sent-bits}
+use Rattle.sharing.specs.Steps.{hold, copies}
 use Rattle.sharing.specs.Run.{after, out-delivered, copies-at, objects, stop, opens-delivered, made, transcript, opened-at, outputs}
 use Rattle.sharing.specs.Tapes.{read}
 use Rattle.sharing.specs.Line.{at-input, at-gate, at-output, errors}
 use Rattle.sharing.specs.Store.{store, fill}
 use Rattle.sharing.proofs.BitLaws.{bit-group}
-use Rattle.sharing.proofs.Parts.{AllDraws, total-at}
+use Rattle.sharing.proofs.Parts.{AllDraws}
 use Rattle.sharing.proofs.Clean.{held, no-objection, opened-value, clean-sent, thrice}
-use Rattle.sharing.proofs.RunLaws.{sent-length, sent-at, objects-none, alike-none, stop-le, stop-before, stop-loud, stop-at, stop-none, quiet-made, stopped-made, made-le}
+use Rattle.sharing.proofs.RunLaws.{sent-length, sent-at, objects-none, alike-none, stop-le, stop-before, stop-loud, stop-at, stop-none, quiet-made, stopped-made}
 use Rattle.sharing.proofs.StoreLaws.{fill-all, fill-read}
 use Rattle.scope.specs.File.{circuit}
-use Rattle.scope.specs.Plain.{plain, plain-out}
+use Rattle.scope.specs.Plain.{plain-out}
 use Rattle.scope.specs.Answer.{Answer, good, abort, refused, After}
-use Rattle.scope.specs.Checks.{line-want}
 use Rattle.scope.specs.Calls.{Call, Run, does, when-good, ran, Accepts, at-wire}
-use Rattle.scope.specs.Statements.{Clean, copies-of, Alike, StopsAt, opened-plain, Bits}
+use Rattle.scope.specs.Statements.{Clean, Alike, StopsAt, opened-plain}
 use Rattle.scope.proofs.PlainLaws.{plain-is}
 use Rattle.scope.proofs.CallLaws.{accepts-does}
-use Rattle.scope.proofs.Accepted.{RunOk, run-ok}
+use Rattle.scope.proofs.Accepted.{run-ok}
 
 -- every draw of bits is good
 pub bit-draws : (T : Draws) → AllDraws (bit-group .Ok) T
@@ -144,6 +142,9 @@ module _ (f x t l outs tr st : List ℕ) (a : Accepts (Run f x t l outs tr st)) 
       let q : stop bits C X D E ≡ o = s .0 in
       let h : o < C .outs = s .2 in
       ap (λ (z : After). getD (z .lent) 0 []) (stopped-run (omega arith))
+
+  pub good-outputs : does the-run .answer ≡ good [] → getD (does the-run .lent) 0 [] ≡ outputs bits C X D E (C .outs)
+  good-outputs e = ap (λ (z : After). getD (z .lent) 0 []) (quiet-run (good-stop e))
 
   quiet-alike : (p : ℕ) → objects bits C X D E p ≡ 0 → Alike f x t l p
   unfolding objects Alike

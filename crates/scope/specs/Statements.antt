@@ -6,15 +6,15 @@
 --     StopsAt           "the first output where some site gets two unlike copies"
 --     Keeps             "other inputs to the same circuit that keep that site's own bits and all opened bits"
 --     opened-plain      each output's plain value, three times;  plain-outs: once
---     add-row, add-up   the sum of all entries of a table
---     place-of          where a site stands in a table;  entry-of: the entry of a table for a sender and a receiver
+--     part-of           a site's part of a store
+--     entry-of          the entry of a table for a sender and a receiver
 use mathlib.Core.Path.{_≡_}
 use mathlib.Core.List.{List, [], _∷_, _++_}
-use Prim.Native.Nat.{ℕ, zero, suc, _+_, _<_}
-use lib.ListN.{length, getD}
+use Prim.Native.Nat.{ℕ, zero, suc, _*_, _<_}
+use lib.ListN.{length, getD, take, drop}
 use Rattle.sharing.specs.Ops.{bits}
-use Rattle.sharing.specs.Sites.{Site, s1, s2, s3, of}
-use Rattle.sharing.specs.Circuit.{Circuit}
+use Rattle.sharing.specs.Sites.{Site, sites-before, of}
+use Rattle.sharing.specs.Circuit.{Circuit, wires}
 use Rattle.sharing.specs.Steps.{Pair}
 use Rattle.sharing.specs.Run.{copies-at}
 use Rattle.sharing.specs.Tapes.{read}
@@ -58,19 +58,10 @@ unfoldable pub plain-outs : Circuit → List ℕ → ℕ → List ℕ
 plain-outs C x zero = []
 plain-outs C x (suc o) = plain-outs C x o ++ (plain-out C x o ∷ [])
 
-unfoldable pub add-row : List ℕ → ℕ
-add-row [] = 0
-add-row (n ∷ ns) = n + add-row ns
-
-unfoldable pub add-up : List (List ℕ) → ℕ
-add-up [] = 0
-add-up (r ∷ rs) = add-row r + add-up rs
+-- 01: "Site s's part starts at 2W(s-1)", and has 2W bytes
+abbrev pub part-of : Site → Circuit → List ℕ → List ℕ
+part-of s C st = take (2 * wires C) (drop (2 * wires C * sites-before s) st)
 
 -- rows and columns go by site, from site 1 on
-abbrev pub place-of : Site → ℕ
-place-of s1 = 0
-place-of s2 = 1
-place-of s3 = 2
-
 abbrev pub entry-of : List (List ℕ) → Site → Site → ℕ
-entry-of t a b = getD (getD t (place-of a) []) (place-of b) 0
+entry-of t a b = getD (getD t (sites-before a) []) (sites-before b) 0

@@ -37,7 +37,7 @@ first-none p zero clear = refl
 first-none p (suc n) clear =
     rw (clear 0 (suc-le-suc zero-le)) (ap suc (first-none (λ (k : ℕ). p (suc k)) n (λ k l. clear (suc k) (suc-le-suc l))))
 
--- what the loop returns at a hit, and at its end: r is what owner_bad said there
+-- what a loop returns at a hit, and at its end: r is what its test said there
 pub found : (p : ℕ → Bool) (i n : ℕ) (r : Bool) → Clear p i → i < n → r ≡ p i → r ≡ true → i ≡ first p n
 found p i n r clear h e t = sym (first-at p i n clear h (sym e ∙ t))
 

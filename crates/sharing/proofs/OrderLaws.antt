@@ -3,11 +3,12 @@
 --     pick-all         of the published bits, those that reach s are what the line brings to it
 --     reaches        the same of the run's own transcript on a clean line
 --     copies-reach     the two copies that a site gets at an opening are those of the six bits that reach it
+--     sent-by-its-sender    every bit of a deal, of a gate and of an opening is what its route's sender sends, on any line
 --     next-takes, prev-takes, mix-takes    what a site takes from a deal is what of the delivered bits reaches it, on any line
 --     ins-got-length, gates-got-length, got-length    a site gets 2 bits of every other's input, 4 of every AND and OR, 2 of every opening
 -- Assumes nothing.
 use mathlib.Core.Path.{_≡_, refl, sym, ap, ap₂, _∙_}
-use mathlib.Core.Bool.{true, false, cond}
+use mathlib.Core.Bool.{cond}
 use mathlib.Core.List.{List, [], _∷_, _++_, append-assoc}
 use Prim.Native.Nat.{ℕ, zero, suc, _+_, _*_}
 use native.Mathlib.Omega.{arith}
@@ -16,8 +17,9 @@ use Rattle.sharing.specs.Ops.{Ops}
 use Rattle.sharing.specs.Sites.{Site, s1, s2, s3, next, prev, is, if-own, Trio, of}
 use Rattle.sharing.specs.Circuit.{Gate, XOR, AND, OR, NOT, Circuit, Draws, no-errors, dealing, ands, owned, all-ands, all-owned}
 use Rattle.sharing.specs.Order.{Route, deal-routes, gate-routes, open-routes, if-deals, ins-routes, gates-routes, routes, pick}
-use Rattle.sharing.specs.Published.{Parts, Deal, deal, dealt, deal-bits, open-bits, share, product-of, parts, out-parts, gate-deal, ins-bits, gates-bits, sent-bits}
-use Rattle.sharing.specs.Steps.{Pair, copies, later, delivered, delivered3, to-next, to-prev}
+use Rattle.sharing.specs.Published.{Parts, Deal, dealt, deal-bits, open-bits, share, product-of, parts, out-parts, gate-deal, ins-bits, gates-bits, sent-bits}
+use Rattle.sharing.specs.Steps.{Pair, Wire, copies, later, delivered, delivered3, to-next, to-prev, six}
+use Rattle.sharing.specs.Senders.{own-copy, opening-sends, deal-sends, along-line}
 use Rattle.sharing.specs.Retape.{mine}
 use Rattle.sharing.specs.Run.{opens-delivered}
 use Rattle.sharing.specs.Line.{at-gate, at-output}
@@ -26,7 +28,7 @@ use Rattle.sharing.proofs.SiteLaws.{by-site, Seen, itself, behind, befo
 use Rattle.sharing.proofs.Parts.{AllDraws}
 use Rattle.sharing.proofs.Clean.{clean-sent}
 use Rattle.sharing.proofs.TapeLaws.{deals-many}
-use Rattle.sharing.proofs.Seen.{got, got-itself, got-behind, got-before, to-site, to-site3, ins-got, gates-got, all-got}
+use Rattle.sharing.proofs.Seen.{got, got-itself, got-behind, got-before, to-site3, ins-got, gates-got, all-got}
 
 ins-many : (C : Circuit) (i : ℕ) → length (ins-routes C i) ≡ 4 * i
 unfolding ins-routes
@@ -132,6 +134,18 @@ unfolding pick if-own is copies
 copies-reach s1 a b c d e f = refl
 copies-reach s2 a b c d e f = refl
 copies-reach s3 a b c d e f = refl
+
+-- "senders go 1, 2, 3": the bits of a step are those that the senders of its routes send, each from what it dealt or holds itself
+pub sent-by-its-sender : (R : Ops) (e : ℕ → ℕ)
+    → ((s : Site) (D : Deal) → delivered R e D ≡ along-line R e (deal-sends (λ a. D) (deal-routes s)))
+    × ((D : Trio Deal) → delivered3 R e D ≡ along-line R e (deal-sends (of D) gate-routes))
+    × ((x : Wire) → six R e x ≡ along-line R e (opening-sends x open-routes))
+unfolding delivered delivered3 six is own-copy opening-sends deal-sends along-line
+sent-by-its-sender R e = (
+  λ s D. by-site (λ s. delivered R e D ≡ along-line R e (deal-sends (λ a. D) (deal-routes s))) refl refl refl s,
+  λ D. refl,
+  λ x. refl,
+)
 
 -- "All sites use delivered bits": what a site takes from a deal is what of the delivered bits reaches it, on any line
 abbrev pub two-of : Pair → List ℕ

@@ -1,32 +1,33 @@
 -- Re-taping on tapes as they are lent.
 --     Kept            inputs that keep a site's own values and all opened ones
 --     same-view        with the new tapes and the second inputs the site sees the same
+--     same-pairs       and holds the same parts of every wire
 --     only-these       no other tapes of the right length do it
 --     there-and-back   going back returns the first tapes
 --     by-third         going by way of a third set of inputs returns what going straight does
 --     new-length, new-in    the new tapes have the right length and stay in a closed set
 -- Assumes nothing.
-use mathlib.Core.Path.{_≡_, refl, sym, ap, ap₂, _∙_}
+use mathlib.Core.Path.{_≡_, sym, ap, _∙_}
 use mathlib.Core.Bool.{Bool, true, false, cond}
-use mathlib.Core.List.{List, [], _∷_, _++_, map}
+use mathlib.Core.List.{List, map}
 use Prim.Native.Nat.{ℕ, _<_}
 use lib.ListN.{length, getD}
 use Rattle.sharing.specs.Ops.{Ops}
-use Rattle.sharing.specs.Sites.{Site, s1, s2, s3, next, is, of}
+use Rattle.sharing.specs.Sites.{Site, s1, s2, s3, next, is}
 use Rattle.sharing.specs.Circuit.{Gate, XOR, AND, OR, NOT, Circuit, Draws}
 use Rattle.sharing.specs.Values.{values}
 use Rattle.sharing.specs.Published.{Parts, no-parts, parts}
 use Rattle.sharing.specs.Steps.{Pair}
-use Rattle.sharing.specs.Tapes.{read, written, tape}
+use Rattle.sharing.specs.Tapes.{tapes-sum, read, written}
 use Rattle.sharing.specs.View.{view-from}
-use Rattle.sharing.specs.Retape.{mine, rest, next-product, flip-mine, next-shares, shift, retape, new-tapes}
+use Rattle.sharing.specs.Retape.{mine, next-product, flip-mine, next-shares, shift, retape, new-tapes}
 use Rattle.sharing.proofs.Group.{Group, Closed}
-use Rattle.sharing.proofs.Parts.{AllDraws, Each, AllParts, parts-in, values-in, three-in}
-use Rattle.sharing.proofs.Mine.{retape-ok, look-mine}
+use Rattle.sharing.proofs.Parts.{AllDraws, Each, parts-in, values-in, three-in}
+use Rattle.sharing.proofs.Mine.{retape-ok, look-mine, mine-same}
 use Rattle.sharing.proofs.Same.{view-same}
 use Rattle.sharing.proofs.Unique.{same-tapes}
-use Rattle.sharing.proofs.Used.{view-used}
-use Rattle.sharing.proofs.TapeLaws.{tapes-sum, read-written, written-is, written-length, AllIn, draws-all, written-all}
+use Rattle.sharing.proofs.Used.{view-used, parts-used}
+use Rattle.sharing.proofs.TapeLaws.{read-written, written-is, written-length, AllIn, draws-all, written-all}
 use Rattle.sharing.proofs.Seen.{seen-view}
 use Rattle.sharing.proofs.ViewLaws.{view-is, Shown, shown}
 
@@ -73,6 +74,14 @@ module _ (G : Group) (s : Site) (C : Circuit) where
       → view-from R s C y (new-tapes R s C x y t) ≡ view-from R s C x t
   same-view {x} {y} t h h′ a =
       view-is G s C y (new-tapes R s C x y t) (h′ .long) (h′ .good) ∙ seen-same t (h .good) a ∙ sym (view-is G s C x t (h .long) (h .good))
+
+  pub same-pairs : {x y : ℕ → ℕ} (t : List ℕ) → AllDraws Ok (read C t) → Kept x y
+      → map (mine s) (parts R C y (read C (new-tapes R s C x y t)) (C .gates)) ≡ map (mine s) (parts R C x (read C t) (C .gates))
+  unfolding new-tapes
+  same-pairs {x} {y} t ok a =
+      ap (map (mine s))
+      (parts-used R s C y (read C (written C (retape R s C x y (read C t)))) (retape R s C x y (read C t)) (read-written C (retape R s C x y (read C t))))
+      ∙ mine-same G s C x y (read C t) ok (a .ok-x) (a .ok-y) (a .own) (C .gates)
 
   pub only-these : {x y : ℕ → ℕ} (t u : List ℕ) → Taped t → Taped u → Kept x y → view-from R s C y u ≡ view-from R s C x t → u ≡ new-tapes R s C x y t
   unfolding new-tapes

@@ -5,12 +5,13 @@
 --     objects-none       it is 0 exactly where there is none
 --     stop-at, stop-none, stop-le    the first output at which a site objects, or O
 --     quiet-made         a run that nobody stops opens every output
+--     outputs-length, outputs-at    three bits an output, those that the sites opened
 -- Assumes nothing.
-use mathlib.Core.Path.{_≡_, refl, sym, ap, ap₂, _∙_}
+use mathlib.Core.Path.{_≡_, refl, sym, ap, _∙_}
 use mathlib.Core.Bool.{Bool, true, false, not, cond}
 use mathlib.Core.Logic.{⊎-elim}
 use mathlib.Core.List.{List, [], _∷_, _++_}
-use Prim.Native.Nat.{ℕ, zero, suc, _+_, _*_, _<_, _≤_, min}
+use Prim.Native.Nat.{ℕ, zero, suc, _+_, _*_, _<_, _≤_}
 use native.Mathlib.Omega.{arith}
 use native.Mathlib.Nat.{eq-or-lt-of-le, le-of-suc-le-suc}
 use lib.ListN.{length, getD, length-append, List·getD-append}
@@ -18,14 +19,13 @@ use lib.Seq.{getD-append-add}
 use lib.Dec.{eqb}
 use borrow.Author.Tests.{eq-eqb, ne-eqb, eqb-true, eqb-false, not-true, not-false}
 use Rattle.sharing.specs.Ops.{Ops}
-use Rattle.sharing.specs.Sites.{Site, s1, s2, s3, Trio, of}
-use Rattle.sharing.specs.Circuit.{Gate, XOR, AND, OR, NOT, Circuit, Draws, Errors, dealing, ands, all-ands}
-use Rattle.sharing.specs.Published.{Deal}
-use Rattle.sharing.specs.Steps.{Pair, Wire, delivered, delivered3, gate-delivered, six, unlike, weight, objecting, named, copies}
-use Rattle.sharing.specs.Run.{ins-after, after, ins-delivered, gates-delivered, output, out-delivered, copies-at, objects, stop, opens-delivered, made, transcript}
-use Rattle.sharing.specs.Line.{at-input, at-gate, at-output}
+use Rattle.sharing.specs.Sites.{Site, s1, s2, s3, sites-before, Trio, of}
+use Rattle.sharing.specs.Circuit.{Gate, XOR, AND, OR, NOT, Circuit, Draws, Errors, dealing, ands}
+use Rattle.sharing.specs.Steps.{Pair, Wire, delivered, delivered3, gate-delivered, six, objecting, named}
+use Rattle.sharing.specs.Run.{ins-after, after, ins-delivered, gates-delivered, out-delivered, objects, stop, opens-delivered, made, opened-at, outputs}
+use Rattle.sharing.specs.Line.{at-gate, at-output}
 use Rattle.sharing.proofs.SiteLaws.{by-site}
-use Rattle.sharing.proofs.FirstLaws.{Clear, first-at, first-none, first-le, first-hit, first-before}
+use Rattle.sharing.proofs.FirstLaws.{first-at, first-none, first-le, first-hit, first-before}
 
 -- a list that grows at its end keeps what it has: what was put there at the n'th turn is found at its place
 pub grown-at : {A : Type 0} (l f : ℕ → List A) (d : A) → ((n : ℕ) → l (suc n) ≡ l n ++ f n) → (n m : ℕ) → n < m → (k : ℕ) → k < length (f n) → getD (l m) (length (l n) + k) d ≡ getD (f n) k d
@@ -187,3 +187,21 @@ module _ (R : Ops) (C : Circuit) (x : ℕ → ℕ) (T : Draws) (E : Errors) wher
   unfolding after
   after-length zero = let k = ins-many (C .ins) in omega arith
   after-length (suc g) = length-append (after R C x T E g) _ ∙ (let k = after-length g in omega arith)
+
+  -- 01: "A good run writes 3O bytes, for each output what site 1, 2 and 3 opened."
+  pub outputs-length : (n : ℕ) → length (outputs R C x T E n) ≡ 3 * n
+  unfolding outputs
+  outputs-length zero = refl
+  outputs-length (suc n) = length-append (outputs R C x T E n) _ ∙ (let k = outputs-length n in omega arith)
+
+  pub outputs-at : (o n : ℕ) → o < n → (s : Site) → getD (outputs R C x T E n) (3 * o + sites-before s) 0 ≡ of (opened-at R C x T E o) s
+  unfolding outputs
+  outputs-at o n h = by-site (λ s. getD (outputs R C x T E n) (3 * o + sites-before s) 0 ≡ of (opened-at R C x T E o) s) (at 0 (omega arith)) (at 1 (omega arith)) (at 2 (omega arith))
+    where
+      three : ℕ → List ℕ
+      three m = opened-at R C x T E m .at1 ∷ opened-at R C x T E m .at2 ∷ opened-at R C x T E m .at3 ∷ []
+
+      at : (k : ℕ) → k < 3 → getD (outputs R C x T E n) (3 * o + k) 0 ≡ getD (three o) k 0
+      at k q =
+          ap (λ (z : ℕ). getD (outputs R C x T E n) (z + k) 0) (sym (outputs-length o))
+          ∙ grown-at (outputs R C x T E) three 0 (λ m. refl) o n h k q

@@ -17,7 +17,7 @@ use lib.Seq.{take-suc, take-length, append-snoc, take-at, drop-at, length-take-l
 use Rattle.sharing.specs.Sites.{Site, s1, s2, s3, next, prev, Trio, of, is, if-own}
 use Rattle.sharing.specs.Circuit.{Gate, XOR, AND, OR, NOT, Circuit, Draws, dealing, ands, owned, all-ands, all-owned}
 use Rattle.sharing.specs.Order.{if-deals}
-use Rattle.sharing.specs.Tapes.{tape-length, cut, join, draws, read, ins-tape, tape, written}
+use Rattle.sharing.specs.Tapes.{tape-length, tapes-sum, cut, join, draws, read, ins-tape, tape, written}
 use Rattle.sharing.proofs.Parts.{AllDraws}
 use Rattle.sharing.proofs.SiteLaws.{Seen, itself, behind, before, seen, is-itself, is-behind, is-before, own-itself, own-behind, own-before}
 
@@ -140,10 +140,6 @@ join-cut C t =
     ∙ ap (λ l. take (tape-length C s1) t ++ (take (tape-length C s2) (drop (tape-length C s1) t) ++ l)) (sym (drop-drop (tape-length C s2) (tape-length C s1) t))
     ∙ ap (λ l. take (tape-length C s1) t ++ l) (take-append-drop (tape-length C s2) (drop (tape-length C s1) t))
     ∙ take-append-drop (tape-length C s1) t
-
--- the length of all tapes
-abbrev pub tapes-sum : Circuit → ℕ
-tapes-sum C = tape-length C s1 + tape-length C s2 + tape-length C s3
 
 pub cut-sized : (C : Circuit) (t : List ℕ) → length t ≡ tapes-sum C → Sized C (cut C t)
 cut-sized C t h = record { sized = go }

@@ -3,16 +3,16 @@
 --     no-diagonal        nobody sends to itself
 --     entry-counts       an entry is the number of bits sent from a to b, less the comparing copies: those from k + 2 to k at an opening
 -- Assumes nothing.
-use mathlib.Core.Path.{_≡_, refl, sym, ap, ap₂, _∙_}
-use mathlib.Core.Bool.{Bool, true, false, cond, _&&_}
+use mathlib.Core.Path.{_≡_, refl, ap₂, _∙_}
+use mathlib.Core.Bool.{cond}
 use mathlib.Core.List.{List, [], _∷_, _++_}
 use Prim.Native.Nat.{ℕ, zero, suc, _+_, _*_}
 use native.Mathlib.Omega.{arith}
-use Rattle.sharing.specs.Sites.{Site, s1, s2, s3, next, prev, is}
+use Rattle.sharing.specs.Sites.{Site, s1, s2, s3, is}
 use Rattle.sharing.specs.Circuit.{Gate, XOR, AND, OR, NOT, Circuit, dealing, ands, all-ands}
 use Rattle.sharing.specs.Order.{Route, count, deal-routes, gate-routes, open-routes, if-deals, ins-routes, gates-routes, routes}
 use Rattle.sharing.proofs.SiteLaws.{alike-one, alike-two, alike-three, is-itself}
-use Rattle.sharing.specs.Traffic.{comparing, input-adds, gate-adds, output-adds, sum, entry, table-total}
+use Rattle.sharing.specs.Traffic.{comparing, input-adds, gate-adds, output-adds, sum, entry, traffic-table, add-row, add-up, table-total}
 
 -- all nine entries of one step's addition
 abbrev nine-of : (Site → Site → ℕ) → ℕ
@@ -57,7 +57,7 @@ sum-output zero = refl
 sum-output (suc n) = let h = sum-output n in let q = output-nine in omega arith
 
 pub table-total-is : (C : Circuit) → table-total C ≡ 4 * C .ins + 12 * all-ands C + 3 * C .outs
-unfolding table-total entry
+unfolding traffic-table add-up add-row entry
 table-total-is C =
     let i = sum-nine (λ a b k. input-adds (C .owner k) a b) (C .ins) ∙ sum-input C (C .ins) in
     let g = sum-nine (λ a b k. gate-adds (C .gate k) a b) (C .gates) ∙ sum-gate C (C .gates) in

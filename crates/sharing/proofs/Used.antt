@@ -1,24 +1,20 @@
 -- A view depends on the draws only through the tapes that they fill.
---     view-used
+--     view-used      so do the published parts: parts-used
 -- Assumes nothing.
-use mathlib.Core.Path.{_≡_, refl, sym, ap, ap₂, _∙_, fun-ext}
-use mathlib.Core.List.{List, [], _∷_, _++_, map, append-assoc}
-use Prim.Native.Nat.{ℕ, zero, suc, _+_, _*_, _<_, _≤_}
-use native.Mathlib.Omega.{arith}
-use lib.ListN.{length, getD, length-append}
+use mathlib.Core.Path.{_≡_, refl, ap, ap₂, _∙_, fun-ext}
+use mathlib.Core.List.{List, [], _∷_, _++_}
+use Prim.Native.Nat.{ℕ, zero, suc, _+_}
+use lib.ListN.{getD}
 use Rattle.sharing.specs.Ops.{Ops}
-use Rattle.sharing.specs.Sites.{Site, s1, s2, s3, next, prev, Trio, of, if-own}
+use Rattle.sharing.specs.Sites.{Site, prev, of, if-own}
 use Rattle.sharing.specs.Circuit.{Gate, XOR, AND, OR, NOT, Circuit, Draws}
-use Rattle.sharing.specs.Values.{values}
 use Rattle.sharing.specs.Order.{if-deals}
-use Rattle.sharing.specs.Published.{Parts, no-parts, total, share, flip-parts, three, gate-parts, left, right, product, product-of, ins-parts, parts, out-parts}
-use Rattle.sharing.specs.Steps.{Pair, local}
+use Rattle.sharing.specs.Published.{Parts, no-parts, total, share, gate-parts, product-of, ins-parts, parts}
 use Rattle.sharing.specs.Tapes.{ins-tape, tape}
 use Rattle.sharing.specs.View.{own-ins}
-use Rattle.sharing.specs.Retape.{mine, rest, next-product, flip-mine, next-shares, shift, retape}
-use Rattle.sharing.proofs.SiteLaws.{Seen, itself, behind, before, seen, own-itself, own-behind, own-before}
-use Rattle.sharing.proofs.Group.{Group, move, rest-inj}
-use Rattle.sharing.proofs.Seen.{got, got-itself, got-behind, got-before, to-site, to-site3, ins-got, gates-got, all-got, seen-totals, seen-view}
+use Rattle.sharing.specs.Retape.{mine}
+use Rattle.sharing.proofs.SiteLaws.{seen}
+use Rattle.sharing.proofs.Seen.{got, to-site3, ins-got, gates-got, all-got, seen-totals, seen-view}
 use Rattle.sharing.proofs.Unique.{split-end, two, own-length, own-agree, deals-length}
 
 module _ (R : Ops) (s : Site) (C : Circuit) (x : ℕ → ℕ) (T U : Draws) where
@@ -83,16 +79,19 @@ module _ (R : Ops) (s : Site) (C : Circuit) (x : ℕ → ℕ) (T U : Draws) wher
       }
 
   module _ (e : (t : Site) → tape C T t (C .gates) ≡ tape C U t (C .gates)) where
+    pub parts-used : parts R C x T (C .gates) ≡ parts R C x U (C .gates)
+    parts-used = gates-used (C .gates) e .parts-are
+
     all-used : (n : ℕ) → all-got R s C x T n ≡ all-got R s C x U n
     unfolding all-got
     all-used zero = gates-used (C .gates) e .got-gates
     all-used (suc o) =
-        ap₂ _++_ (all-used o) (ap (λ ps. of (getD ps (C .out o) no-parts) (prev s) ∷ of (getD ps (C .out o) no-parts) (prev s) ∷ []) (gates-used (C .gates) e .parts-are))
+        ap₂ _++_ (all-used o) (ap (λ ps. of (getD ps (C .out o) no-parts) (prev s) ∷ of (getD ps (C .out o) no-parts) (prev s) ∷ []) parts-used)
 
     outs-used : (n : ℕ) → seen-totals R s C x T n ≡ seen-totals R s C x U n
     unfolding seen-totals
     outs-used zero = refl
-    outs-used (suc o) = ap₂ _++_ (outs-used o) (ap (λ ps. total R (getD ps (C .out o) no-parts) ∷ []) (gates-used (C .gates) e .parts-are))
+    outs-used (suc o) = ap₂ _++_ (outs-used o) (ap (λ ps. total R (getD ps (C .out o) no-parts) ∷ []) parts-used)
 
     pub view-used : seen-view R s C x T ≡ seen-view R s C x U
     unfolding seen-view

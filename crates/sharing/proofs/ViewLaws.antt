@@ -19,7 +19,7 @@ use Rattle.sharing.specs.Values.{values}
 use Rattle.sharing.specs.Published.{total, out-parts}
 use Rattle.sharing.specs.Order.{routes, pick}
 use Rattle.sharing.specs.Run.{opened-at, opens-delivered, made, transcript}
-use Rattle.sharing.specs.Tapes.{tape-length, cut, read, tape}
+use Rattle.sharing.specs.Tapes.{tape-length, tapes-sum, cut, read, tape}
 use Rattle.sharing.specs.View.{own-ins, seen-outs, view-from}
 use Rattle.sharing.proofs.Group.{Group}
 use Rattle.sharing.proofs.SiteLaws.{Seen, itself, behind, before, seen, is-itself, is-behind, is-before, own-itself, own-behind, own-before}
@@ -27,7 +27,7 @@ use Rattle.sharing.proofs.Parts.{AllDraws, total-at}
 use Rattle.sharing.proofs.Clean.{no-objection, opened-total, thrice}
 use Rattle.sharing.proofs.RunLaws.{stop-none, quiet-made}
 use Rattle.sharing.proofs.OrderLaws.{reaches, got-length}
-use Rattle.sharing.proofs.TapeLaws.{tapes-sum, read-tape, cut-sized, gates-length}
+use Rattle.sharing.proofs.TapeLaws.{read-tape, cut-sized, gates-length}
 use Rattle.sharing.proofs.Seen.{all-got, seen-totals, seen-view}
 use Rattle.sharing.proofs.Unique.{split, split-end, own-length, own-agree}
 

@@ -6,6 +6,7 @@ pub mod Values
 pub mod Order
 pub mod Published
 pub mod Steps
+pub mod Senders
 pub mod First
 pub mod Run
 pub mod Tapes

@@ -59,7 +59,8 @@ module _ (R : Ops) where
   abbrev pub flip-parts : Parts → Parts
   flip-parts P = record { at1 = add (P .at1) 1; at2 = P .at2; at3 = P .at3 }
 
-  -- 01, step 4: "site s forms v = x(s)y(s) xor x(s)y(s+1) xor x(s+1)y(s)"
+  -- 01, step 4: "site s forms v = x(s)y(s) xor x(s)y(s+1) xor x(s+1)y(s)", of published parts. What a site forms of the pair that it
+  -- holds is written down once more, as local in Steps.antt: two levels, and the laws of a clean line (proofs/Clean.antt) that they agree.
   abbrev pub three : ℕ → ℕ → ℕ → ℕ → ℕ
   three x x′ y y′ = add (add (mul x y) (mul x y′)) (mul x′ y)
 

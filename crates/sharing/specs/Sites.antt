@@ -2,6 +2,7 @@
 --     Site, s1 s2 s3    the three sites; also the three parts
 --     next, prev        s + 1 and s + 2 in the ring
 --     is                whether two sites are one
+--     sites-before      s - 1: how many sites come before s
 --     if-own            a list where two sites are one, else nothing
 --     Trio, of          one thing for each site
 use mathlib.Core.Bool.{Bool, true, false, cond}
@@ -22,6 +23,12 @@ abbrev pub prev : Site → Site
 prev s1 = s3
 prev s2 = s1
 prev s3 = s2
+
+-- 01: "Site s's part starts at 2W(s-1)": the s - 1 of that, and where a site's row stands in a table
+abbrev pub sites-before : Site → ℕ
+sites-before s1 = 0
+sites-before s2 = 1
+sites-before s3 = 2
 
 unfoldable pub is : Site → Site → Bool
 is s1 s1 = true

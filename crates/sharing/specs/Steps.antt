@@ -92,7 +92,8 @@ module _ (R : Ops) where
   abbrev pub flip : Wire → Wire
   flip x = record { at1 = (add (x .at1 .0) 1, x .at1 .1); at2 = x .at2; at3 = (x .at3 .0, add (x .at3 .1) 1) }
 
-  -- 01, step 4: "site s forms v = x(s)y(s) xor x(s)y(s+1) xor x(s+1)y(s)"
+  -- 01, step 4: "site s forms v = x(s)y(s) xor x(s)y(s+1) xor x(s+1)y(s)", of the pairs that it holds, whatever the line made of them. The
+  -- published formula is three in Published.antt: two levels, and the laws of a clean line (proofs/Clean.antt) that they agree.
   abbrev pub local : Pair → Pair → ℕ
   local x y = add (add (mul (x .0) (y .0)) (mul (x .0) (y .1))) (mul (x .1) (y .0))
 

@@ -1,6 +1,6 @@
 -- 01: "Tapes stand in one slice, site 1's first: site s has 2(Is+A) bits, Is being its own inputs, in all 2I+6A. A site uses its tape
 -- in order: its own inputs by wire, then AND and OR gates by number."
---     tape-length       2(Is+A)
+--     tape-length       2(Is+A);  tapes-sum: of the three tapes together
 --     cut, join         one slice as three tapes, and back
 --     draws             the draws that three tapes give
 --     tape              the tape of a site that draws fill
@@ -15,6 +15,10 @@ use Rattle.sharing.specs.Order.{if-deals}
 
 unfoldable pub tape-length : Circuit → Site → ℕ
 tape-length C s = 2 * (all-owned C s + all-ands C)
+
+-- "in all 2I+6A": that it is so is proofs/TapeLaws.antt, tapes-length
+abbrev pub tapes-sum : Circuit → ℕ
+tapes-sum C = tape-length C s1 + tape-length C s2 + tape-length C s3
 
 abbrev pub cut : Circuit → List ℕ → Trio (List ℕ)
 cut C t = record {

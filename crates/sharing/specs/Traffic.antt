@@ -2,8 +2,9 @@
 --     input-adds, gate-adds, output-adds    what one step adds, from a to b
 --     comparing                             the copies that the figure leaves out
 --     entry C a b                           the sum over the circuit's steps
---     traffic-table C                               the nine entries, by rows
---     table-total                           their sum
+--     traffic-table C                       the nine entries, by rows
+--     add-row, add-up                       the sum of a row, and of a table
+--     table-total C                         the traffic total: the sum of the table
 use mathlib.Core.Bool.{Bool, _&&_, not, cond}
 use mathlib.Core.List.{List, [], _∷_}
 use Prim.Native.Nat.{ℕ, zero, suc, _+_, _*_}
@@ -44,8 +45,14 @@ traffic-table C = traffic-row C s1 ∷ traffic-row C s2 ∷ traffic-row C s3 ∷
 abbrev pub no-table : List (List ℕ)
 no-table = (0 ∷ 0 ∷ 0 ∷ []) ∷ (0 ∷ 0 ∷ 0 ∷ []) ∷ (0 ∷ 0 ∷ 0 ∷ []) ∷ []
 
-abbrev row-total : Circuit → Site → ℕ
-row-total C a = entry C a s1 + entry C a s2 + entry C a s3
+unfoldable pub add-row : List ℕ → ℕ
+add-row [] = 0
+add-row (n ∷ ns) = n + add-row ns
 
-unfoldable pub table-total : Circuit → ℕ
-table-total C = row-total C s1 + row-total C s2 + row-total C s3
+unfoldable pub add-up : List (List ℕ) → ℕ
+add-up [] = 0
+add-up (r ∷ rs) = add-row r + add-up rs
+
+-- "the total"
+abbrev pub table-total : Circuit → ℕ
+table-total C = add-up (traffic-table C)

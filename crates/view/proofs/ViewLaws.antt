@@ -18,13 +18,13 @@ use Rattle.sharing.specs.Ops.{bits}
 use Rattle.sharing.specs.Sites.{Site, s1, s2, s3, of}
 use Rattle.sharing.specs.Circuit.{Circuit, ands, all-ands, owned, all-owned}
 use Rattle.sharing.specs.First.{first}
-use Rattle.sharing.specs.Tapes.{tape-length, cut, read}
+use Rattle.sharing.specs.Tapes.{tape-length, tapes-sum, cut, read}
 use Rattle.sharing.specs.Store.{fill}
 use Rattle.sharing.specs.View.{own-ins, view-from}
 use Rattle.sharing.proofs.BitLaws.{bit-group}
 use Rattle.sharing.proofs.Seen.{seen-view}
 use Rattle.sharing.proofs.StoreLaws.{fill-all}
-use Rattle.sharing.proofs.TapeLaws.{tapes-sum, tapes-length, read-tape}
+use Rattle.sharing.proofs.TapeLaws.{tapes-length, read-tape}
 use Rattle.sharing.proofs.ViewLaws.{view-is}
 use Rattle.scope.specs.File.{site-of, circuit}
 use Rattle.scope.specs.Checks.{Given, Row, one-to-three, tested, at-places, row, refusal-table, fault, accepted, refuses, verdict}

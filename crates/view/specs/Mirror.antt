@@ -8,8 +8,7 @@ use mathlib.Core.List.{List, [], _∷_}
 use Prim.Native.Nat.{ℕ, _+_, _*_, _-_}
 use Rattle.sharing.specs.Circuit.{all-ands, all-owned}
 use Rattle.sharing.specs.Sites.{Site}
-use Rattle.sharing.specs.Tapes.{tape-length}
-use Rattle.sharing.proofs.TapeLaws.{tapes-sum}
+use Rattle.sharing.specs.Tapes.{tape-length, tapes-sum}
 use Rattle.scope.specs.File.{circuit, site-of}
 use Rattle.scope.specs.Checks.{whole, Given, tapes-want}
 use Rattle.scope.specs.Calls.{view-wants}

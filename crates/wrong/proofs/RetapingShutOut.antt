@@ -1,8 +1,10 @@
--- The wrong re-tapings and the wrong view of specs/Retaping.antt do not meet the promise.
+-- The wrong re-tapings and the wrong views of specs/Retaping.antt do not meet the promise.
 --     handing-back-fails-on-K8      whatever is laid down in the work room
 --     K8-only                       no other tapes meet it on K8
 --     refusing-freely-fails         at every re-taping that is accepted;  ..-on-K8: K8 is one
---     ten-before-eleven-fails       a view that looks at 10 before 11, at site 4 with empty buffers
+--     right-order                   in the one order they do what the calls do
+--     ten-before-eleven-fails       a view that looks at 10 before 11, at site 4 with empty buffers;  retaping-..: so a re-taping
+--     twelve-before-ten-fails       a re-taping that looks at 12 before 10, with no second inputs and empty buffers
 -- Assumes nothing.
 use mathlib.Core.Path.{_≡_, refl, sym, ap, _∙_}
 use mathlib.Core.List.{List, [], _∷_}
@@ -13,17 +15,17 @@ use Rattle.sharing.specs.Sites.{is}
 use Rattle.sharing.specs.Circuit.{dealing, ands, owned}
 use Rattle.sharing.specs.First.{first}
 use Rattle.scope.specs.File.{le16, le32, size, owner-at, kind-at, first-at, second-at, output-at, site-of, gate-of}
-use Rattle.scope.specs.Answer.{After, refused, number-of}
+use Rattle.scope.specs.Answer.{After, number-of}
 use Rattle.scope.specs.Checks.{tested, row-owner, good-gate, row-gate, row-output, refusal-table, row, fault, verdict}
 use Rattle.scope.specs.Refusal.{stands-in, those-of}
-use Rattle.scope.specs.Calls.{View, Retape, given-of, concerns, order, settle, does, Accepts}
+use Rattle.scope.specs.Calls.{Call, View, Retape, given-of, fixed-order, concerns, order, settle, does, Accepts}
 use Rattle.scope.proofs.CallLaws.{good-accepts}
 use Rattle.retape.specs.declared.Retaped.{Retaped}
 use Rattle.retape.specs.Answers.{retape-answer}
 use Rattle.view.specs.Answers.{view-answer}
 use Rattle.demands.specs.Marked.{K-file, K-tapes, untouched, K-retape, good-with}
 use Rattle.demands.proofs.Marked.{marked}
-use Rattle.wrong.specs.Retaping.{TapeEngine, TapeMeets, TapeMeetsOn, hands-old-tapes-back, refuses-freely, ViewMeetsOn, checks-ten-first}
+use Rattle.wrong.specs.Retaping.{TapeEngine, TapeMeets, TapeMeetsOn, hands-old-tapes-back, refuses-freely, ViewMeetsOn, in-order, ten-before-eleven, twelve-before-ten, views-in-order, retapes-in-order}
 
 -- the row of K8
 K8 : does (K-retape 3 (1 ∷ 0 ∷ []) (0 ∷ 1 ∷ []))
@@ -52,14 +54,33 @@ pub K8-only : (r : Retaped) (fresh room : List ℕ) → TapeMeets K-file (1 ∷ 
     → fresh ≡ 0 ∷ 0 ∷ 0 ∷ 1 ∷ 0 ∷ 1 ∷ 0 ∷ 1 ∷ 1 ∷ 0 ∷ []
 K8-only r fresh room m = ap (λ (z : After). getD (z .lent) 0 []) (m ∙ K8)
 
--- site 4 with empty buffers: the statement has 11
-eleven : does (View K-file (1 ∷ 1 ∷ []) K-tapes 4 [] []) .answer ≡ refused 11 0
-unfolding is dealing ands owned first le16 le32 size owner-at kind-at first-at second-at output-at site-of gate-of tested row-owner good-gate row-gate row-output refusal-table row fault verdict given-of concerns those-of stands-in order settle does
-eleven = refl
+-- the order of checks is all that is wrong
+pub right-order : (c : Call) → in-order fixed-order c ≡ does c
+unfolding does order
+right-order c = refl
 
-ten-not-eleven : ¬ _≡_ {A = ℕ} 10 11
-ten-not-eleven e = omega arith
+-- K's circuit asked for site 4 with empty buffers, and for site 3 with no second inputs and empty buffers: the number that is promised
+promised : (number-of (does (View K-file (1 ∷ 1 ∷ []) K-tapes 4 [] []) .answer) ≡ 11)
+    × (number-of (does (Retape K-file (1 ∷ 1 ∷ []) K-tapes (1 ∷ 1 ∷ []) 4 [] []) .answer) ≡ 11)
+    × (number-of (does (Retape K-file (1 ∷ 1 ∷ []) K-tapes [] 3 [] []) .answer) ≡ 10)
+unfolding is dealing ands owned first le16 le32 size owner-at kind-at first-at second-at output-at site-of gate-of tested row-owner good-gate row-gate row-output refusal-table row fault verdict given-of concerns those-of stands-in order settle does number-of
+promised = (refl, refl, refl)
 
-pub ten-before-eleven-fails : ¬ ViewMeetsOn checks-ten-first K-file (1 ∷ 1 ∷ []) K-tapes 4 [] []
-unfolding view-answer number-of
-ten-before-eleven-fails m = ten-not-eleven (ap number-of (ap (λ (z : After). z .answer) m ∙ eleven))
+-- and the number that comes in another order
+told : (number-of (view-answer (views-in-order ten-before-eleven K-file (1 ∷ 1 ∷ []) K-tapes 4 [] [] .0)) ≡ 10)
+    × (number-of (retape-answer (retapes-in-order ten-before-eleven K-file (1 ∷ 1 ∷ []) K-tapes (1 ∷ 1 ∷ []) 4 [] [] .0)) ≡ 10)
+    × (number-of (retape-answer (retapes-in-order twelve-before-ten K-file (1 ∷ 1 ∷ []) K-tapes [] 3 [] [] .0)) ≡ 12)
+unfolding is dealing ands owned first le16 le32 size owner-at kind-at first-at second-at output-at site-of gate-of tested row-owner good-gate row-gate row-output refusal-table row fault verdict given-of concerns those-of stands-in settle number-of view-answer retape-answer
+told = (refl, refl, refl)
+
+abbrev number : After → ℕ
+number z = number-of (z .answer)
+
+pub ten-before-eleven-fails : ¬ ViewMeetsOn (views-in-order ten-before-eleven) K-file (1 ∷ 1 ∷ []) K-tapes 4 [] []
+ten-before-eleven-fails m = let e = sym (told .0) ∙ ap number m ∙ promised .0 in omega arith
+
+pub retaping-ten-before-eleven-fails : ¬ TapeMeetsOn (retapes-in-order ten-before-eleven) K-file (1 ∷ 1 ∷ []) K-tapes (1 ∷ 1 ∷ []) 4 [] []
+retaping-ten-before-eleven-fails m = let e = sym (told .1) ∙ ap number m ∙ promised .1 in omega arith
+
+pub twelve-before-ten-fails : ¬ TapeMeetsOn (retapes-in-order twelve-before-ten) K-file (1 ∷ 1 ∷ []) K-tapes [] 3 [] []
+twelve-before-ten-fails m = let e = sym (told .2) ∙ ap number m ∙ promised .2 in omega arith

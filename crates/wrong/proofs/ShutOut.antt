@@ -5,7 +5,7 @@
 --     fixed-bit-fails-on-K1, ..-on-1-0    a bit that is not 1 fails on K1, one that is not 0 on inputs 1 0
 --     copied-values-open-right     on a clean line all that it opens is right
 --     copying-fails-on-K1          with the plainest choice of parts and bits: it opens the right bits, even its store is right, and the bits sent are not
---     copying-fails                with any parts and bits: on K1 or on other tapes
+--     copying-fails                with any parts and bits that are made from the circuit and its plain values: on K1 or on other tapes
 --     made-up-table-fails          on K's file or on that file with another owner
 -- Assumes nothing.
 use mathlib.Core.Path.{_≡_, refl, sym, ap, _∙_}
@@ -38,7 +38,7 @@ use Rattle.run.specs.Answers.{run-answer, run-after}
 use Rattle.demands.specs.Marked.{K-file, K-tapes, K-line, K-store}
 use Rattle.demands.proofs.Demands.{clean-opens-plain}
 use Rattle.wrong.specs.Engine.{Lent, MeetsOn, OnK, OnK1, K1-outputs, K1-transcript, other-tapes, Long, TableMeetsOn}
-use Rattle.wrong.specs.Wrong.{asked, refuses-everything, writes-nothing, opens-a-fixed-bit, gates-sent, copies-plain-values, bare, bare-bits, makes-up-a-table}
+use Rattle.wrong.specs.Wrong.{asked, refuses-everything, writes-nothing, opens-a-fixed-bit, FromPlain, gates-laid, gates-sent, copies-plain-values, bare, bare-bits, makes-up-a-table}
 use Rattle.wrong.proofs.Right.{K1-right, K1-only, opens-zeros, first-gate-bit}
 
 one-not-zero : ¬ _≡_ {A = ℕ} 1 0
@@ -79,8 +79,8 @@ pub fixed-bit-fails-on-1-0 : (v : ℕ) → ¬ (v ≡ 0) → (b : Lent) → ¬ On
 unfolding le16 le32
 fixed-bit-fails-on-1-0 v n b m = n (ap (λ (l : List ℕ). getD l 0 0) (opens-zeros b _ _ _ m))
 
--- "and one that shares the inputs and then copies plain values.", whatever parts and bits it chooses for a plain value
-module _ (lays : ℕ → Parts) (sends : ℕ → List ℕ) where
+-- "and one that shares the inputs and then copies plain values.", whatever parts and bits it makes of the circuit and its plain values
+module _ (lays : FromPlain Parts) (sends : FromPlain (List ℕ)) where
   pub copied-values-open-right : (file inputs tapes line : List ℕ) (b : Lent) → Accepts (asked file inputs tapes line b) → Clean line
       → copies-plain-values lays sends file inputs tapes line b .1 .outputs ≡ buffer 0 (asked file inputs tapes line b)
   copied-values-open-right file inputs tapes line b a c = sym (clean-opens-plain file inputs tapes line (b .outputs) (b .transcript) (b .store) a c .1)
@@ -94,7 +94,7 @@ module _ (lays : ℕ → Parts) (sends : ℕ → List ℕ) where
 -- what it leaves on K1
 copied-on-K1 : (b : Lent) → let z = copies-plain-values bare bare-bits K-file (1 ∷ 1 ∷ []) K-tapes (K-line []) b .1 in
     (z .outputs ≡ K1-outputs) × (getD (z .transcript) 8 0 ≡ 0) × (z .store ≡ K-store)
-unfolding is dealing ands owned if-deals delivered in-wire ins-after ins-delivered tape-length draws at-input errors side store fill le16 le32 owner-at kind-at first-at second-at output-at site-of gate-of bit byte plain-gate plain-inputs plain-values plain opened-plain gates-sent
+unfolding is dealing ands owned if-deals delivered in-wire ins-after ins-delivered tape-length draws at-input errors side store fill le16 le32 owner-at kind-at first-at second-at output-at site-of gate-of bit byte plain-gate plain-inputs plain-values plain opened-plain gates-laid gates-sent
 copied-on-K1 b = (refl, refl, refl)
 
 -- by chance the parts of K1's gate are 1, 0, 0 on K's tapes too, so that only the bits sent tell

@@ -1,18 +1,25 @@
--- Wrong re-tapings and a wrong view, each a definition; proofs/RetapingShutOut.antt shows that it does not meet the promise.
+-- Wrong re-tapings and wrong views, each a definition; proofs/RetapingShutOut.antt shows that it does not meet the promise.
 --     TapeEngine             a re-taping: from what it is given to its answer, the new tapes and the work room
 --     TapeMeets              the promise of `retape` (crates/retape/src/lib.rt), its one `ensures`;  TapeMeetsOn: an engine meets it on what it is given
 --     hands-old-tapes-back   whatever it lays down in the work room
 --     refuses-freely n p     with this number and place
---     ViewEngine, ViewMeets, ViewMeetsOn, checks-ten-first    the same for a view: 10 before 11
+--     ViewEngine, ViewMeets, ViewMeetsOn    the same for a view
+--     in-order                              a call that makes its checks in another order, and is right in all else
+--     ten-before-eleven, twelve-before-ten  two such orders
+--     views-in-order, retapes-in-order      a view and a re-taping in such an order
 use mathlib.Core.Path.{_≡_}
-use mathlib.Core.List.{List}
+use mathlib.Core.List.{List, [], _∷_}
 use Prim.Native.Nat.{ℕ}
-use Rattle.scope.specs.Calls.{View, Retape, does}
+use lib.ListN.{getD}
+use Rattle.scope.specs.Answer.{Answer, good, abort, refused, After}
+use Rattle.scope.specs.Checks.{verdict}
+use Rattle.scope.specs.Refusal.{those-of}
+use Rattle.scope.specs.Calls.{Call, View, Retape, given-of, concerns, settle, does}
 use Rattle.retape.specs.declared.Retaped.{Retaped}
 use Rattle.retape.specs.declared.Retaped.the-variants.{Good, Refused}
 use Rattle.retape.specs.Answers.{retape-after}
 use Rattle.view.specs.declared.Viewed.{Viewed}
-use Rattle.view.specs.declared.Viewed.the-variants.{Refused as ViewRefused}
+use Rattle.view.specs.declared.Viewed.the-variants.{Good as ViewGood, Refused as ViewRefused}
 use Rattle.view.specs.Answers.{view-after}
 
 abbrev pub TapeEngine : Type 0
@@ -46,6 +53,35 @@ ViewMeetsOn engine file inputs tapes site view store =
     let z = engine file inputs tapes site view store in
     ViewMeets file inputs tapes site view store (z .0) (z .1) (z .2)
 
--- 10 looked at before 11, at an empty buffer and a site that is none
-abbrev pub checks-ten-first : ViewEngine
-checks-ten-first file inputs tapes site view store = (ViewRefused 10 0, view, store)
+-- what `does` is (scope/specs/Calls.antt), with another order of all checks in the place of the one order
+abbrev pub in-order : List ℕ → Call → After
+in-order ns c = settle c (verdict (given-of c) (those-of (concerns c) ns))
+
+-- 01: "The exceptions are 14, which comes first, and 11, which comes just before 10": here 11 is none,
+abbrev pub ten-before-eleven : List ℕ
+ten-before-eleven = 14 ∷ 1 ∷ 2 ∷ 3 ∷ 4 ∷ 5 ∷ 6 ∷ 7 ∷ 8 ∷ 9 ∷ 10 ∷ 11 ∷ 12 ∷ 13 ∷ []
+
+-- and here the second inputs are looked at before the buffers, as the first are
+abbrev pub twelve-before-ten : List ℕ
+twelve-before-ten = 14 ∷ 1 ∷ 2 ∷ 3 ∷ 4 ∷ 5 ∷ 6 ∷ 7 ∷ 8 ∷ 9 ∷ 11 ∷ 12 ∷ 10 ∷ 13 ∷ []
+
+-- neither call aborts
+abbrev pub as-viewed : Answer → Viewed
+as-viewed (good vs) = ViewGood
+as-viewed (abort o m) = ViewGood
+as-viewed (refused n p) = ViewRefused n p
+
+abbrev pub as-retaped : Answer → Retaped
+as-retaped (good vs) = Good
+as-retaped (abort o m) = Good
+as-retaped (refused n p) = Refused n p
+
+abbrev pub views-in-order : List ℕ → ViewEngine
+views-in-order ns file inputs tapes site view store =
+    let z = in-order ns (View file inputs tapes site view store) in
+    (as-viewed (z .answer), getD (z .lent) 0 [], getD (z .lent) 1 [])
+
+abbrev pub retapes-in-order : List ℕ → TapeEngine
+retapes-in-order ns file inputs tapes second site fresh room =
+    let z = in-order ns (Retape file inputs tapes second site fresh room) in
+    (as-retaped (z .answer), getD (z .lent) 0 [], getD (z .lent) 1 [])

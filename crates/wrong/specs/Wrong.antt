@@ -1,14 +1,14 @@
 -- The wrong engines of 01's "How far each statement goes", each a definition; proofs/ShutOut.antt shows that it does not meet the promise.
--- Edits of the code that keep its shape make some of them in one way (site's opens_a_fixed_bit, traffic's made_up_entry), the others not at all.
+-- Edits of the code that keep its shape make some of them in one way (messages' opens_a_fixed_bit, entries' made_up_entry), the others not at all.
 --     refuses-everything n p     with this number and place
 --     writes-nothing             it says Good
 --     opens-a-fixed-bit v        v at every output and site; all else is right
---     copies-plain-values        lays, sends: as what parts a plain value is laid down, and what is sent for it at a gate that deals
+--     copies-plain-values        lays, sends: as what parts a gate's wire is laid down, and what is sent at a gate that deals
 --     bare, bare-bits            the plainest choice of these two
 --     makes-up-a-table           from the three counts alone
-use mathlib.Core.List.{List, [], _++_, map}
+use mathlib.Core.List.{List, [], _∷_, _++_}
 use Prim.Native.Nat.{ℕ, zero, suc, _+_, _*_}
-use lib.ListN.{getD, drop, replicate}
+use lib.ListN.{getD, replicate}
 use Rattle.sharing.specs.Ops.{bits}
 use Rattle.sharing.specs.Circuit.{Circuit, none}
 use Rattle.sharing.specs.Order.{if-deals}
@@ -44,10 +44,19 @@ opens-a-fixed-bit v file inputs tapes line b =
     let c = asked file inputs tapes line b in
     (Good, record { outputs = replicate (3 * circuit file .outs) v; transcript = buffer 1 c; store = buffer 2 c })
 
--- what is sent at the gates that deal, from the plain values vs of all wires
-unfoldable pub gates-sent : (ℕ → List ℕ) → Circuit → List ℕ → ℕ → List ℕ
+-- what is made of a gate by its circuit, the plain values of all wires and its number
+abbrev pub FromPlain : Type 0 → Type 0
+FromPlain A = Circuit → List ℕ → ℕ → A
+
+-- the wires of the first gates
+unfoldable pub gates-laid : FromPlain Parts → Circuit → List ℕ → ℕ → List Wire
+gates-laid lays C vs zero = []
+gates-laid lays C vs (suc g) = gates-laid lays C vs g ++ (hold (lays C vs g) ∷ [])
+
+-- what is sent at those of them that deal
+unfoldable pub gates-sent : FromPlain (List ℕ) → Circuit → List ℕ → ℕ → List ℕ
 gates-sent sends C vs zero = []
-gates-sent sends C vs (suc g) = gates-sent sends C vs g ++ if-deals (C .gate g) (sends (getD vs (C .ins + g) 0))
+gates-sent sends C vs (suc g) = gates-sent sends C vs g ++ if-deals (C .gate g) (sends C vs g)
 
 -- what is sent at the openings of wires ws
 unfoldable pub opens-sent : Circuit → List Wire → ℕ → List ℕ
@@ -55,12 +64,12 @@ opens-sent C ws zero = []
 opens-sent C ws (suc o) = opens-sent C ws o ++ six bits none (getD ws (C .out o) no-wire)
 
 -- "and one that shares the inputs and then copies plain values": the inputs are shared, sent and taken as in step 1. A gate's wire and what
--- is sent for it are made from its plain value and from no tape; the line changes nothing there.
-abbrev pub copies-plain-values : (ℕ → Parts) → (ℕ → List ℕ) → Engine
+-- is sent for it are made from the circuit and the plain values and from no tape; the line changes nothing there.
+abbrev pub copies-plain-values : FromPlain Parts → FromPlain (List ℕ) → Engine
 copies-plain-values lays sends file inputs tapes line b =
     let C = circuit file in
     let vs = plain C inputs in
-    let ws = ins-after bits C (at-wire inputs) (read C tapes) (errors C line) (C .ins) ++ map (λ (v : ℕ). hold (lays v)) (drop (C .ins) vs) in
+    let ws = ins-after bits C (at-wire inputs) (read C tapes) (errors C line) (C .ins) ++ gates-laid lays C vs (C .gates) in
     let ins = ins-delivered bits C (at-wire inputs) (read C tapes) (errors C line) (C .ins) in (
       Good,
       record {
@@ -70,13 +79,17 @@ copies-plain-values lays sends file inputs tapes line b =
       },
     )
 
+-- the plain value of a gate's wire
+abbrev pub gate-value : FromPlain ℕ
+gate-value C vs g = getD vs (C .ins + g) 0
+
 -- part 1 is the value, the others are 0
-abbrev pub bare : ℕ → Parts
-bare v = record { at1 = v; at2 = 0; at3 = 0 }
+abbrev pub bare : FromPlain Parts
+bare C vs g = record { at1 = gate-value C vs g; at2 = 0; at3 = 0 }
 
 -- site 1 deals the value, the others deal 0, and nobody draws
-abbrev pub bare-bits : ℕ → List ℕ
-bare-bits v = deal-bits (deal bits v 0 0) ++ (deal-bits (deal bits 0 0 0) ++ deal-bits (deal bits 0 0 0))
+abbrev pub bare-bits : FromPlain (List ℕ)
+bare-bits C vs g = deal-bits (deal bits (gate-value C vs g) 0 0) ++ (deal-bits (deal bits 0 0 0) ++ deal-bits (deal bits 0 0 0))
 
 -- "a made-up traffic table": a fixed one, or whatever else takes no look at the circuit's steps
 abbrev pub makes-up-a-table : (ℕ → ℕ → ℕ → List (List ℕ)) → TableEngine
