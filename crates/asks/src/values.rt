@@ -1,5 +1,5 @@
 // Plain values. Each slice has a room of its own.
-use plain::Valued;
+use checks::Done;
 use stream::input;
 use stream::print;
 use stream::rooms;
@@ -25,8 +25,8 @@ pub fn plain() -> bool {
 fn valued(file: &[u8], inputs: &[u8], values: &mut [u8]) {
     print::word(b"plain");
     match plain::plain_values(file, inputs, values) {
-        Valued::Good => print::word(b" good\n"),
-        Valued::Refused(n, p) => print::refused(n, p),
+        Done::Good => print::word(b" good\n"),
+        Done::Refused(n, p) => print::refused(n, p),
     }
     print::buffer(b"values", values);
 }

@@ -1,9 +1,7 @@
 // The listing program: a job from standard input, its text to standard output.
-ghost use Prim.Native.Nat.{_≤_};
-ghost use lib.ListN.{length};
 use libc::STDIN_FILENO;
-use libc::STDOUT_FILENO;
 use listing::Listed;
+use stream::print;
 
 // How long the text is.
 fn written(listed: Listed) -> usize {
@@ -14,17 +12,10 @@ fn written(listed: Listed) -> usize {
 }
 
 // The text, which is the front of its room.
-fn print(room: &[u8; 2624], n: usize) {
+fn show(room: &[u8; 2624], n: usize) {
     if n <= 2624 {
-        front(room, n);
+        print::front(room, n);
     }
-}
-
-// The first n bytes of a text.
-fn front(text: &[u8], n: usize)
-    requires { ⌜ n ≤ length (now text) ⌝ }
-{
-    io::write_all(STDOUT_FILENO, &text[..n]);
 }
 
 // The room has one byte more than the longest job, so that a longer one is noticed: it is refused as any job over 41,520 bytes is.
@@ -33,5 +24,5 @@ fn main() {
     let mut text = [0u8; 2624];
     let n = io::read_full(STDIN_FILENO, &mut job);
     let told = written(listing::listing(&job[..n], &mut text));
-    print(&text, told);
+    show(&text, told);
 }

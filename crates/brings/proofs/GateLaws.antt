@@ -32,7 +32,8 @@ use Rattle.link.specs.Loops.{place, in-places}
 use Rattle.link.proofs.BitLinks.{bits-zero, not-bits}
 use Rattle.link.proofs.FillLaws.{fill-four}
 use Rattle.link.proofs.GateLaws.{add-link, and-sends, or-sends, and-store, or-store}
-use Rattle.link.proofs.GatesLaw.{placed-eq, st-eq, places, firsts, seconds}
+use Rattle.engine.proofs.EngineLaws.{placed-eq}
+use Rattle.link.proofs.GatesLaw.{st-eq, places, firsts, seconds}
 use Rattle.seen.specs.Mirror.{four-of-site, with-at, past-and, and-seen, gate-seen, ins-seen, state-seen}
 use Rattle.seen.proofs.SeenLaws.{on-none}
 

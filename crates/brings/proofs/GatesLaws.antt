@@ -1,5 +1,4 @@
 -- What the proof of the pass over the gates cites: from turn to turn it is in the document's states, and so has room.
---     gates-none, gates-turn     the loop
 --     gates-reach, gates-room    the state it has reached, and its room
 --     begun                      where the inputs ended the gates may begin
 -- Assumes nothing.
@@ -19,22 +18,14 @@ use Rattle.scope.specs.File.{kind-at, first-at, second-at, gate-of, circuit}
 use Rattle.scope.specs.Calls.{at-wire}
 use Rattle.scope.proofs.Limits.{ands-most}
 use Rattle.header.specs.declared.Counts.{Counts}
-use Rattle.engine.specs.Mirror.{St, Lower, up-to}
-use Rattle.engine.proofs.EngineLaws.{lower-of, none-yet, turn, ands-room}
+use Rattle.engine.specs.Mirror.{St, Lower}
+use Rattle.engine.proofs.EngineLaws.{lower-of, ands-room}
 use Rattle.link.specs.Link.{cut3}
 use Rattle.link.specs.Loops.{base, place}
 use Rattle.link.proofs.PartLaws.{cut-ok}
 use Rattle.seen.specs.Mirror.{gate-seen, gates-seen, ins-seen, state-seen, AndRoom, Seeing, Begun}
+use Rattle.circuit.specs.Loop.{up-to}
 use Rattle.brings.proofs.GateLaws.{gate-step, joined}
-
-pub gates-none : (s : Site) (f tapes : List ℕ) (i n : ℕ) (x : St) → x ≡ gates-seen s f tapes i n x 0
-unfolding gates-seen
-gates-none s f tapes i n x = none-yet (λ g. gate-seen s tapes n (i + g) (circuit f .gate g)) x
-
-pub gates-turn : (s : Site) (f tapes : List ℕ) (i n : ℕ) (x y z : St) (k : ℕ) → y ≡ gates-seen s f tapes i n x k
-    → z ≡ gate-seen s tapes n (i + k) (circuit f .gate k) y → z ≡ gates-seen s f tapes i n x (k + 1)
-unfolding gates-seen
-gates-turn s f tapes i n x y z k e q = turn (λ g. gate-seen s tapes n (i + g) (circuit f .gate g)) x k y z e q
 
 module _ (f tapes : List ℕ) (s : Site) (got store : ℕ) (c : Counts) (d : Seeing f c s (length tapes) got store) (x₀ : St)
     (b : Begun f s tapes (c .inputs + c .gates) got x₀) where
@@ -62,7 +53,7 @@ module _ (f tapes : List ℕ) (s : Site) (got store : ℕ) (c : Counts) (d : See
       omega arith
 
   pub gates-reach : (g : ℕ) → g ≤ c .gates → gates-seen s f tapes (c .inputs) n x₀ g ≡ state g
-  unfolding gates-seen up-to
+  unfolding up-to
   gates-reach zero h = b .is
   gates-reach (suc g) h =
       let i = d .checked .opened .ins-are in let k = d .checked .opened .gates-are in let l = b .long in let t = there g h in

@@ -10,7 +10,7 @@ use lib.Dec.{ltb}
 use borrow.Author.Tests.{lt-ltb, le-ltb, ltb-true, ltb-false, not-false}
 use Rattle.sharing.specs.First.{first}
 use Rattle.sharing.proofs.FirstLaws.{first-clear}
-use Rattle.scope.specs.Answer.{good, After}
+use Rattle.scope.specs.Answer.{good}
 use Rattle.scope.specs.Checks.{fault, row, refusal-table, row-owner, row-gate, row-output, accepted, refuses, verdict}
 use Rattle.scope.specs.Refusal.{stands-in, those-of}
 use Rattle.scope.specs.Calls.{Check, given-of, concerns, order, lent-before, lent-at-13, when-good, returned-refused, answers, does}
@@ -20,7 +20,7 @@ use Rattle.header.specs.declared.Header.{Header}
 use Rattle.header.specs.declared.Header.the-variants.{Good, Refused}
 use Rattle.header.specs.Mirror.{header-of}
 use Rattle.header.specs.Opened.{Opened, IsOpened}
-use Rattle.header.proofs.OpenLaws.{only-answer, opened-from, header-inj}
+use Rattle.header.proofs.OpenLaws.{only-answer, opened-from, header-inj, one-answer}
 use Rattle.header.specs.Answers.{header-answer}
 use Rattle.header.proofs.HeaderLaws.{header-refused, header-good}
 use Rattle.faults.specs.Mirror.{bad-owner, bad-kind, bad-gate, bad-output}
@@ -116,4 +116,4 @@ check-in h r s c e o q a =
     (ap (λ (z : Header). answers (header-answer z)) a ∙ check-law s c op (sym e ∙ q), subst (λ (z : Header). IsChecked z s) (sym a) (checked-is s c op))
 
 pub check-one : (s : List ℕ) (q r : Header) → answers (header-answer q) ≡ does (Check s) → answers (header-answer r) ≡ does (Check s) → q ≡ r
-check-one s q r a b = header-inj q r (ap (λ (z : After). z .answer) (a ∙ sym b))
+check-one s = one-answer header-answer header-inj (does (Check s))

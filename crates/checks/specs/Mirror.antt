@@ -1,5 +1,6 @@
 -- What the inner functions of the checks compute. No public contract cites these: laws in proofs/ tie them to the calls of scope.
 --     checked-of            checks 4 to 6, one after the other
+--     refusal-of            a circuit's refusal as the answer of a call behind it
 use mathlib.Core.Bool.{cond}
 use mathlib.Core.List.{List}
 use Prim.Native.Nat.{ℕ}
@@ -8,6 +9,8 @@ use Rattle.sharing.specs.First.{first}
 use Rattle.header.specs.declared.Counts.{Counts}
 use Rattle.header.specs.declared.Header.{Header}
 use Rattle.header.specs.declared.Header.the-variants.{Good, Refused}
+use Rattle.checks.specs.declared.Done.{Done}
+use Rattle.checks.specs.declared.Done.the-variants.{Refused as DoneRefused}
 use Rattle.faults.specs.Mirror.{bad-owner, bad-gate, bad-output}
 
 unfoldable pub checked-of : List ℕ → Counts → Header
@@ -16,3 +19,7 @@ checked-of s c =
     (cond (ltb (first (bad-gate s (c .inputs)) (c .gates)) (c .gates)) (Refused 5 (first (bad-gate s (c .inputs)) (c .gates)))
     (cond (ltb (first (bad-output s (c .inputs) (c .gates)) (c .outputs)) (c .outputs)) (Refused 6 (first (bad-output s (c .inputs) (c .gates)) (c .outputs)))
     (Good c)))
+
+abbrev pub refusal-of : Header → Done
+refusal-of (Good c) = DoneRefused 0 0
+refusal-of (Refused n p) = DoneRefused n p

@@ -1,4 +1,4 @@
-// Checks 4 to 6: one test each, the first fault by index, one loop each; the whole circuit's check.
+// Checks 4 to 6: one test each, the first fault by index, one loop each; the whole circuit's check, and the answer of the calls behind it.
 ghost use mathlib.Core.Path.{_≡_};
 ghost use Prim.Native.Nat.{_+_, _<_};
 ghost use Rattle.sharing.specs.First.{first};
@@ -6,13 +6,19 @@ ghost use Rattle.scope.specs.Calls.{Check, answers, does};
 ghost use Rattle.header.specs.Opened.{Opened};
 ghost use Rattle.header.specs.Answers.{header-answer};
 ghost use Rattle.faults.specs.Mirror.{bad-owner, bad-gate, bad-output};
-ghost use Rattle.checks.specs.Mirror.{checked-of};
+ghost use Rattle.checks.specs.Mirror.{checked-of, refusal-of};
 ghost use Rattle.circuit.specs.Checked.{IsChecked};
 use circuit::Gate;
 use circuit::Output;
 use circuit::Owner;
 use header::Counts;
 use header::Header;
+
+// What a call answers that only fills its buffers: good; a refusal's number and place.
+pub enum Done {
+    Good,
+    Refused(usize, usize),
+}
 
 // 4: an owner not 1 to 3.
 pub fn owner_bad(file: &[u8], c: Counts, k: usize) -> bool
@@ -128,4 +134,14 @@ pub fn check_file(file: &[u8]) -> Header
         return h;
     };
     judge_parts(file, c)
+}
+
+// A circuit's refusal as the answer of such a call. A good header has none; nobody asks.
+pub fn refused(h: Header) -> Done
+    ensures { λ r. ⌜ r ≡ refusal-of h ⌝ }
+{
+    match h {
+        Header::Good(_) => Done::Refused(0, 0),
+        Header::Refused(n, p) => Done::Refused(n, p),
+    }
 }

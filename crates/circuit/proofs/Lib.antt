@@ -1,2 +1,4 @@
 pub mod ReaderLaws
 pub mod CheckedLaws
+pub mod SiteLaws
+pub mod LoopLaws

@@ -1,3 +1,4 @@
 pub mod Answers
 pub mod Mirror
 pub mod Checked
+pub mod Loop

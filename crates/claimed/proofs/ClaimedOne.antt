@@ -9,7 +9,8 @@ use Rattle.circuit.specs.declared.Gate.{Gate}
 use Rattle.circuit.specs.declared.Owner.{Owner}
 use Rattle.circuit.specs.declared.Output.{Output}
 use Rattle.circuit.specs.Answers.{gate-answer, owner-answer, output-answer}
-use Rattle.reader.proofs.ReadLaws.{gate-inj, owner-inj, output-inj, one-answer}
+use Rattle.header.proofs.OpenLaws.{one-answer}
+use Rattle.reader.proofs.ReadLaws.{gate-inj, owner-inj, output-inj}
 use Rattle.claimed.specs.Reader.{read-as}
 
 pub gate-read-one : (c : Counts) (s : List ℕ) (k : ℕ) (q r : Gate) → answers (gate-answer q) ≡ read-as c (GateAt s k) → answers (gate-answer r) ≡ read-as c (GateAt s k) → q ≡ r

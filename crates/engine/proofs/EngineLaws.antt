@@ -2,18 +2,17 @@
 --     and-law                         AND and OR, from what each stage gives
 --     lower-of                        a good gate reads lower wires
 --     xor-kind, and-kind, not-kind, or-kind    the gate that a kind's number means
---     .. -lower, .. -room, .. -step    what each kind may lean on, and what it gives
 --     gate-is, gate-lower             the gate that was read is the circuit's, and reads lower wires
+--     placed-eq, one-more, in-pos-is  equal places; the places after one input more of one site
 -- Assumes nothing.
 use mathlib.Core.Path.{_≡_, refl, sym, ap, _∙_, subst}
 use mathlib.Core.Bool.{true, cond}
 use mathlib.Core.List.{List}
 use Prim.Native.Nat.{ℕ, zero, suc, _+_, _*_, _<_, _≤_}
 use native.Mathlib.Omega.{arith}
-use native.Mathlib.Numerals.{add-one}
-use native.Mathlib.Nat.{le-refl, le-trans, le-add-right, le-antisymm, not-suc-le-zero, eq-or-lt-of-le, le-of-suc-le-suc}
+use native.Mathlib.Nat.{add-zero, le-refl, le-trans, le-add-right, not-suc-le-zero, eq-or-lt-of-le, le-of-suc-le-suc}
 use mathlib.Core.Logic.{⊎-elim}
-use lib.ListN.{length, getD}
+use lib.ListN.{length}
 use borrow.Author.Tests.{ne-eqb}
 use Rattle.sharing.specs.Ops.{bits}
 use Rattle.sharing.specs.Sites.{Site, s1, s2, s3, is}
@@ -27,14 +26,16 @@ use Rattle.circuit.specs.declared.Gate.the-variants.{Is as GateIs}
 use Rattle.circuit.specs.Mirror.{gate-by}
 use Rattle.circuit.proofs.ReaderLaws.{gate-some}
 use Rattle.circuit.specs.Checked.{Checked}
+use Rattle.circuit.proofs.SiteLaws.{by-number}
 use Rattle.circuit.proofs.CheckedLaws.{operands-lower}
 use Rattle.messages.specs.Mirror.{deal-at, on-line, in-pairs, line-at}
-use Rattle.steps.specs.Mirror.{add-gate, not-gate, put-four, put-held, sends, takes, on-lines, put-twelve}
+use Rattle.steps.specs.Mirror.{put-four, put-held, sends, takes, on-lines, put-twelve}
 use Rattle.messages.specs.declared.Twelve.{Twelve}
 use Rattle.messages.specs.declared.Four.{Four}
 use Rattle.messages.specs.declared.Held.{Held}
+use Rattle.circuit.specs.Loop.{up-to}
 use Rattle.engine.specs.declared.Pos.{Pos}
-use Rattle.engine.specs.Mirror.{St, st, placed, next-pos, and-on, gate-on, Lower, Room, up-to, gates-on, own-place, in-pos, input-on, inputs-on, InRoom}
+use Rattle.engine.specs.Mirror.{St, st, placed, next-pos, and-on, gate-on, Lower, Room, gates-on, own-place, in-pos, input-on, inputs-on, InRoom}
 
 pub and-law : (tapes line : List ℕ) (n a b w o : ℕ) (pos : Pos) (store tr : List ℕ) (s g : Twelve) (d l : List ℕ) (p : Pos)
     → s ≡ sends bits tapes n a b o (pos .t1) (pos .t2) (pos .t3) store → g ≡ on-lines bits (line-at line (pos .at)) s → d ≡ put-twelve (pos .at) g tr
@@ -75,57 +76,12 @@ or-kind (suc (suc zero)) a b p q r = absurd (q refl)
 or-kind (suc (suc (suc zero))) a b p q r = absurd (r refl)
 or-kind (suc (suc (suc (suc n)))) a b p q r = refl
 
--- what each way through a gate of any kind may lean on, and what it gives
-module _ (kind a b w : ℕ) (G : Gate) (is : gate-of kind a b ≡ G) where
-  pub kind-lower : Lower (gate-of kind a b) w → Lower G w
-  kind-lower h = subst (λ (H : Gate). Lower H w) is h
-
-  pub kind-room : (t l r : ℕ) (pos : Pos) → Room (dealing (gate-of kind a b)) t l r pos → Room (dealing G) t l r pos
-  kind-room t l r pos h = subst (λ (H : Gate). Room (dealing H) t l r pos) is h
-
-  pub kind-on : (tapes line : List ℕ) (n : ℕ) (x y : St) → y ≡ gate-on tapes line n w G x → y ≡ gate-on tapes line n w (gate-of kind a b) x
-  kind-on tapes line n x y e = e ∙ ap (λ (H : Gate). gate-on tapes line n w H x) (sym is)
-
-module _ (tapes line : List ℕ) (n a b w : ℕ) where
-  pub xor-on : (store tr l : List ℕ) (pos : Pos) → l ≡ add-gate bits n a b w store → st l tr pos ≡ gate-on tapes line n w (XOR a b) (st store tr pos)
-  unfolding gate-on
-  xor-on store tr l pos e = ap (λ (m : List ℕ). st m tr pos) e
-
-  pub not-on : (store tr l : List ℕ) (pos : Pos) → l ≡ not-gate bits n a w store → st l tr pos ≡ gate-on tapes line n w (NOT a) (st store tr pos)
-  unfolding gate-on
-  not-on store tr l pos e = ap (λ (m : List ℕ). st m tr pos) e
-
-  pub and-is : (x y : St) → y ≡ and-on tapes line n a b w 0 x → y ≡ gate-on tapes line n w (AND a b) x
-  unfolding gate-on
-  and-is x y e = e
-
-  pub or-is : (x y : St) → y ≡ and-on tapes line n a b w 1 x → y ≡ gate-on tapes line n w (OR a b) x
-  unfolding gate-on
-  or-is x y e = e
-
--- an AND or OR deals once
-pub and-room : (a b t l r : ℕ) (pos : Pos) → Room (dealing (AND a b)) t l r pos → Room 1 t l r pos
-unfolding dealing
-and-room a b t l r pos h = h
-
-pub or-room : (a b t l r : ℕ) (pos : Pos) → Room (dealing (OR a b)) t l r pos → Room 1 t l r pos
-unfolding dealing
-or-room a b t l r pos h = h
-
 -- the gate that was read is the circuit's
 pub gate-is : (s : List ℕ) (c : Counts) (k kind a b : ℕ) (r : Read) → Opened s c → r ≡ gate-by s c k → r ≡ GateIs kind a b → k < c .gates
     → gate-of kind a b ≡ circuit s .gate k
 gate-is s c k kind a b r o e q h =
     let v = gate-some s c k kind a b r e q h in
     (λ i. gate-of (v .0 i) (v .1 i) (v .2 i)) ∙ ap (λ (n : ℕ). gate-of (kind-at s n k) (first-at s n k) (second-at s n k)) (o .ins-are)
-
--- so a step of the one is a step of the other
-module _ (G H : Gate) (is : G ≡ H) where
-  pub read-room : (t l r : ℕ) (pos : Pos) → Room (dealing H) t l r pos → Room (dealing G) t l r pos
-  read-room t l r pos h = subst (λ (K : Gate). Room (dealing K) t l r pos) (sym is) h
-
-  pub read-on : (tapes line : List ℕ) (n w : ℕ) (x y : St) → y ≡ gate-on tapes line n w G x → y ≡ gate-on tapes line n w H x
-  read-on tapes line n w x y e = e ∙ ap (λ (K : Gate). gate-on tapes line n w K x) is
 
 -- and it is good
 pub gate-lower : (s : List ℕ) (c : Counts) (k kind a b : ℕ) (r : Read) → Checked s c → r ≡ gate-by s c k → r ≡ GateIs kind a b → k < c .gates
@@ -134,34 +90,24 @@ gate-lower s c k kind a b r o e q h =
     let v = gate-some s c k kind a b r e q h in
     lower-of kind a b (c .inputs + k) ((λ i. good-gate (v .0 i) (v .1 i) (v .2 i) (c .inputs + k)) ∙ o .gates k h)
 
--- ---- loops
-module _ {S : Type 0} (f : ℕ → S → S) (s : S) where
-  pub none-yet : s ≡ up-to f s 0
-  unfolding up-to
-  none-yet = refl
-
-  pub turn : (k : ℕ) (x y : S) → x ≡ up-to f s k → y ≡ f k x → y ≡ up-to f s (k + 1)
-  unfolding up-to
-  turn k x y e q = q ∙ ap (f k) e ∙ ap (up-to f s) (sym (add-one k))
-
 -- ---- the places after gates
 unfoldable pub moved : ℕ → Pos → Pos
 moved m p = placed (p .t1 + 2 * m) (p .t2 + 2 * m) (p .t3 + 2 * m) (p .at + 12 * m)
 
-placed-eq : (a b c d a′ b′ c′ d′ : ℕ) → a ≡ a′ → b ≡ b′ → c ≡ c′ → d ≡ d′ → placed a b c d ≡ placed a′ b′ c′ d′
-placed-eq a b c d a′ b′ c′ d′ p q r s = λ i. placed (p i) (q i) (r i) (s i)
+pub placed-eq : {a b c d a′ b′ c′ d′ : ℕ} → a ≡ a′ → b ≡ b′ → c ≡ c′ → d ≡ d′ → placed a b c d ≡ placed a′ b′ c′ d′
+placed-eq p q r s = λ i. placed (p i) (q i) (r i) (s i)
 
 unmoved : (p : Pos) → p ≡ moved 0 p
 unfolding moved
-unmoved p = placed-eq _ _ _ _ _ _ _ _ (omega arith) (omega arith) (omega arith) (omega arith)
+unmoved p = placed-eq (omega arith) (omega arith) (omega arith) (omega arith)
 
 moved-add : (a b : ℕ) (p : Pos) → moved b (moved a p) ≡ moved (a + b) p
 unfolding moved
-moved-add a b p = placed-eq _ _ _ _ _ _ _ _ (omega arith) (omega arith) (omega arith) (omega arith)
+moved-add a b p = placed-eq (omega arith) (omega arith) (omega arith) (omega arith)
 
 next-moves : (p : Pos) → next-pos p ≡ moved 1 p
 unfolding moved next-pos
-next-moves p = placed-eq _ _ _ _ _ _ _ _ (omega arith) (omega arith) (omega arith) (omega arith)
+next-moves p = placed-eq (omega arith) (omega arith) (omega arith) (omega arith)
 
 gate-moves : (tapes line : List ℕ) (n w : ℕ) (G : Gate) (x : St) → gate-on tapes line n w G x .pos ≡ moved (dealing G) (x .pos)
 unfolding gate-on and-on dealing
@@ -171,7 +117,7 @@ gate-moves tapes line n w (AND a b) x = next-moves (x .pos)
 gate-moves tapes line n w (OR a b) x = next-moves (x .pos)
 
 pub gates-pos : (file tapes line : List ℕ) (i n : ℕ) (x : St) (k : ℕ) → gates-on file tapes line i n x k .pos ≡ moved (ands (circuit file .gate) k) (x .pos)
-unfolding gates-on up-to ands
+unfolding up-to ands
 gates-pos file tapes line i n x zero = unmoved (x .pos)
 gates-pos file tapes line i n x (suc k) =
     gate-moves tapes line n (i + k) (circuit file .gate k) (gates-on file tapes line i n x k)
@@ -200,19 +146,6 @@ room-at file tapes line i n x y k g r r′ h e o q =
     let o1 = o .one in let o2 = o .two in let o3 = o .thr in let o4 = o .lin in let o5 = o .trn in
     record { one = omega arith; two = omega arith; thr = omega arith; lin = omega arith; trn = omega arith; few-tapes = o .few-tapes; few-line = o .few-line }
 
--- one more gate
-pub gates-turn : (file tapes line : List ℕ) (i n : ℕ) (x y z : St) (k : ℕ) → y ≡ gates-on file tapes line i n x k
-    → z ≡ gate-on tapes line n (i + k) (circuit file .gate k) y → z ≡ gates-on file tapes line i n x (k + 1)
-unfolding gates-on
-gates-turn file tapes line i n x y z k e q = turn (λ g. gate-on tapes line n (i + g) (circuit file .gate g)) x k y z e q
-
-pub gates-none : (file tapes line : List ℕ) (i n : ℕ) (x : St) → x ≡ gates-on file tapes line i n x 0
-unfolding gates-on
-gates-none file tapes line i n x = none-yet (λ g. gate-on tapes line n (i + g) (circuit file .gate g)) x
-
-pub at-end : {S : Type 0} (f : ℕ → S) (k n : ℕ) (y : S) → y ≡ f k → k ≤ n → n ≤ k → y ≡ f n
-at-end f k n y e a b = e ∙ ap f (le-antisymm a b)
-
 -- ---- inputs
 pub input-law : (tapes line : List ℕ) (n w v owner : ℕ) (pos : Pos) (store tr : List ℕ) (t : ℕ) (k g : Four) (h : Held) (d l : List ℕ) (p : Pos)
     → t ≡ own-place owner pos → k ≡ deal-at bits tapes t v → g ≡ on-line bits (line-at line (pos .at)) k → d ≡ put-four (pos .at) g tr
@@ -228,23 +161,22 @@ module _ (a b : ℕ) (is : a ≡ b) where
   pub owner-on : (tapes line : List ℕ) (n w v : ℕ) (x y : St) → y ≡ input-on tapes line n w v a x → y ≡ input-on tapes line n w v b x
   owner-on tapes line n w v x y e = e ∙ ap (λ (o : ℕ). input-on tapes line n w v o x) is
 
--- the places after inputs
-unfoldable pub in-moved : (Site → ℕ) → ℕ → Pos → Pos
+-- the places after k inputs, of which each site owns so many
+abbrev pub in-moved : (Site → ℕ) → ℕ → Pos → Pos
 in-moved m k p = placed (p .t1 + 2 * m s1) (p .t2 + 2 * m s2) (p .t3 + 2 * m s3) (p .at + 4 * k)
 
-input-moves : (owner : ℕ) (p : Pos) → in-pos owner p ≡ placed (p .t1 + 2 * cond (is s1 (site-of owner)) 1 0) (p .t2 + 2 * cond (is s2 (site-of owner)) 1 0) (p .t3 + 2 * cond (is s3 (site-of owner)) 1 0) (p .at + 4)
-unfolding in-pos site-of is
-input-moves zero p = placed-eq _ _ _ _ _ _ _ _ (omega arith) (omega arith) (omega arith) refl
-input-moves (suc zero) p = placed-eq _ _ _ _ _ _ _ _ (omega arith) (omega arith) (omega arith) refl
-input-moves (suc (suc zero)) p = placed-eq _ _ _ _ _ _ _ _ (omega arith) (omega arith) (omega arith) refl
-input-moves (suc (suc (suc n))) p =
-    rw (ne-eqb (suc (suc (suc n))) 1 (λ e. omega arith), ne-eqb (suc (suc (suc n))) 2 (λ e. omega arith))
-    (placed-eq _ _ _ _ _ _ _ _ (omega arith) (omega arith) (omega arith) refl)
+-- one input more of one site
+abbrev pub one-more : Pos → Site → Pos
+one-more p s = in-moved (λ z. cond (is z s) 1 0) 1 p
+
+pub in-pos-is : (owner : ℕ) (p : Pos) → in-pos owner p ≡ one-more p (site-of owner)
+unfolding in-pos is
+in-pos-is owner p = simp add-zero at (by-number (one-more p) owner)
 
 pub inputs-pos : (file xs tapes line : List ℕ) (n : ℕ) (x : St) (k : ℕ) → inputs-on file xs tapes line n x k .pos
     ≡ in-moved (λ s. owned (circuit file .owner) s k) k (x .pos)
-unfolding inputs-on up-to owned in-moved input-on
-inputs-pos file xs tapes line n x zero = placed-eq _ _ _ _ _ _ _ _ (omega arith) (omega arith) (omega arith) (omega arith)
+unfolding up-to owned input-on
+inputs-pos file xs tapes line n x zero = placed-eq (omega arith) (omega arith) (omega arith) (omega arith)
 inputs-pos file xs tapes line n x (suc k) =
     let y = inputs-on file xs tapes line n x k in
     let m = inputs-pos file xs tapes line n x k in
@@ -252,7 +184,7 @@ inputs-pos file xs tapes line n x (suc k) =
     let e2 : y .pos .t2 ≡ x .pos .t2 + 2 * owned (circuit file .owner) s2 k = ap (λ (z : Pos). z .t2) m in
     let e3 : y .pos .t3 ≡ x .pos .t3 + 2 * owned (circuit file .owner) s3 k = ap (λ (z : Pos). z .t3) m in
     let e4 : y .pos .at ≡ x .pos .at + 4 * k = ap (λ (z : Pos). z .at) m in
-    input-moves (owner-at file k) (y .pos) ∙ placed-eq _ _ _ _ _ _ _ _ (omega arith) (omega arith) (omega arith) (omega arith)
+    in-pos-is (owner-at file k) (y .pos) ∙ placed-eq (omega arith) (omega arith) (omega arith) (omega arith)
 
 -- one more input is one of those counted
 pub owned-room : (f : ℕ → Site) (s : Site) (k n : ℕ) → k < n → owned f s k + cond (is s (f k)) 1 0 ≤ owned f s n
@@ -278,7 +210,6 @@ InStep owner t l r q =
 pub in-room-at : (file xs tapes line : List ℕ) (n : ℕ) (x y : St) (k i r r′ : ℕ) → k < i → r′ ≡ r
     → InRoom (circuit file .owner) i (length tapes) (length line) r (x .pos) → y ≡ inputs-on file xs tapes line n x k
     → InStep (owner-at file k) (length tapes) (length line) r′ (y .pos)
-unfolding in-moved
 in-room-at file xs tapes line n x y k i r r′ h e o q =
     let f : ℕ → Site = circuit file .owner in
     let m : y .pos ≡ in-moved (λ s. owned f s k) k (x .pos) = ap (λ (z : St). z .pos) q ∙ inputs-pos file xs tapes line n x k in
@@ -289,12 +220,3 @@ in-room-at file xs tapes line n x y k i r r′ h e o q =
     let e4 : y .pos .at ≡ x .pos .at + 4 * k = ap (λ (z : Pos). z .at) m in
     let o1 = o .one in let o2 = o .two in let o3 = o .thr in let o4 = o .lin in let o5 = o .trn in let o6 = o .few-tapes in let o7 = o .few-line in
     ((omega arith, omega arith, omega arith, omega arith), (own-room (owner-at file k) (y .pos) (length tapes) (omega arith) (omega arith) (omega arith), omega arith, omega arith))
-
-pub inputs-turn : (file xs tapes line : List ℕ) (n : ℕ) (x y z : St) (k : ℕ) → y ≡ inputs-on file xs tapes line n x k
-    → z ≡ input-on tapes line n k (getD xs k 0) (owner-at file k) y → z ≡ inputs-on file xs tapes line n x (k + 1)
-unfolding inputs-on
-inputs-turn file xs tapes line n x y z k e q = turn (λ i. input-on tapes line n i (getD xs i 0) (owner-at file i)) x k y z e q
-
-pub inputs-none : (file xs tapes line : List ℕ) (n : ℕ) (x : St) → x ≡ inputs-on file xs tapes line n x 0
-unfolding inputs-on
-inputs-none file xs tapes line n x = none-yet (λ i. input-on tapes line n i (getD xs i 0) (owner-at file i)) x

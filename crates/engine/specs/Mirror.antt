@@ -5,21 +5,20 @@
 --     Lower             a gate reads lower wires
 --     Room, InRoom      there is room for so many more AND and OR gates; for so many inputs
 --     own-place, in-pos, input-on    an input: where on its owner's tape its draws stand, the places after it, the state after it
---     up-to             a state after k turns of a loop
 --     inputs-on, gates-on    a state after the first k inputs, and after the first k gates
 --     opening           what is delivered at an opening;  open-on, opens-on: the transcript after it, and after the first k
 --     objects-on        the sites that object there
 --     hand-on, hands-on what is handed over for an output, and for the first k
-use mathlib.Core.Path.{_≡_}
-use mathlib.Core.Bool.{Bool, cond}
+use mathlib.Core.Bool.{cond}
 use mathlib.Core.List.{List}
-use Prim.Native.Nat.{ℕ, zero, suc, _+_, _*_, _≤_, _<_}
+use Prim.Native.Nat.{ℕ, _+_, _*_, _≤_, _<_}
 use lib.ListN.{getD, set}
 use lib.Dec.{eqb}
 use Rattle.sharing.specs.Ops.{bits}
 use Rattle.sharing.specs.Circuit.{Gate, XOR, AND, OR, NOT, owned}
 use Rattle.sharing.specs.Sites.{Site, s1, s2, s3}
 use Rattle.scope.specs.File.{circuit, owner-at}
+use Rattle.circuit.specs.Loop.{up-to}
 use Rattle.messages.specs.Mirror.{deal-at, line-at, on-line, in-pairs, on-line-six, objects-of, opened-of}
 use Rattle.steps.specs.Mirror.{add-gate, not-gate, sends, takes, on-lines, put-four, put-twelve, put-held, held-at, put-six}
 use Rattle.messages.specs.declared.Held.{Held}
@@ -80,10 +79,6 @@ pub record InRoom (f : ℕ → Site) (n tapes line tr : ℕ) (pos : Pos) : Type 
   pub few-tapes : tapes ≤ 65536
   pub few-line : line ≤ 65536
 
-unfoldable pub up-to : {S : Type 0} → (ℕ → S → S) → S → ℕ → S
-up-to f s zero = s
-up-to f s (suc k) = f k (up-to f s k)
-
 -- ---- inputs, by the owner's number
 unfoldable pub own-place : ℕ → Pos → ℕ
 own-place owner p = cond (eqb owner 1) (p .t1) (cond (eqb owner 2) (p .t2) (p .t3))
@@ -100,10 +95,10 @@ input-on tapes line n w v owner x =
     st (put-held n w (in-pairs owner k g) (x .store)) (put-four (x .pos .at) g (x .tr)) (in-pos owner (x .pos))
 
 -- ---- the two passes, for a file with I inputs of n wires
-unfoldable pub inputs-on : List ℕ → List ℕ → List ℕ → List ℕ → ℕ → St → ℕ → St
+abbrev pub inputs-on : List ℕ → List ℕ → List ℕ → List ℕ → ℕ → St → ℕ → St
 inputs-on file xs tapes line n x k = up-to (λ i. input-on tapes line n i (getD xs i 0) (owner-at file i)) x k
 
-unfoldable pub gates-on : List ℕ → List ℕ → List ℕ → ℕ → ℕ → St → ℕ → St
+abbrev pub gates-on : List ℕ → List ℕ → List ℕ → ℕ → ℕ → St → ℕ → St
 gates-on file tapes line i n x k = up-to (λ g. gate-on tapes line n (i + g) (circuit file .gate g)) x k
 
 -- ---- openings, from place at of line and transcript on; a store of n wires
@@ -118,7 +113,7 @@ module _ (file line store : List ℕ) (n at : ℕ) where
   unfoldable pub open-on : ℕ → List ℕ → List ℕ
   open-on k tr = put-six (at + 6 * k) (opening k) tr
 
-  unfoldable pub opens-on : List ℕ → ℕ → List ℕ
+  abbrev pub opens-on : List ℕ → ℕ → List ℕ
   opens-on tr k = up-to open-on tr k
 
 -- ---- outputs handed over: each site's pair and the copy it got first, which stands in the transcript
@@ -130,5 +125,5 @@ module _ (file tr store : List ℕ) (n at : ℕ) where
   hand-on k outs =
       put-three (3 * k) (opened-of bits (held-at n (circuit file .out k) store) (getD tr (at + 6 * k + 3) 0) (getD tr (at + 6 * k) 0) (getD tr (at + 6 * k + 1) 0)) outs
 
-  unfoldable pub hands-on : List ℕ → ℕ → List ℕ
+  abbrev pub hands-on : List ℕ → ℕ → List ℕ
   hands-on outs k = up-to hand-on outs k

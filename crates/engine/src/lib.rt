@@ -1,12 +1,11 @@
 // The passes of a run over inputs and gates.
 ghost use mathlib.Core.Path.{_≡_};
-ghost use mathlib.Core.Bool.{true};
-ghost use Prim.Native.Nat.{ℕ, _+_, _*_, _<_, _≤_};
+ghost use Prim.Native.Nat.{_+_, _*_, _<_, _≤_};
 ghost use lib.ListN.{length, getD};
 ghost use Rattle.sharing.specs.Circuit.{dealing, ands};
 ghost use Rattle.scope.specs.File.{circuit, gate-of, owner-at};
 ghost use Rattle.circuit.specs.Checked.{Checked};
-ghost use Rattle.engine.specs.Mirror.{st, next-pos, and-on, gate-on, Lower, Room, up-to, gates-on, own-place, in-pos, input-on, inputs-on, InRoom};
+ghost use Rattle.engine.specs.Mirror.{st, next-pos, and-on, gate-on, Lower, Room, gates-on, own-place, in-pos, input-on, inputs-on, InRoom};
 use circuit::Gate;
 use circuit::Owner;
 use header::Counts;

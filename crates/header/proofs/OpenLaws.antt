@@ -2,18 +2,18 @@
 --     only-answer      a refused call that is lent nothing answers its refusal and nothing else
 --     open-law         opening does what its call does
 --     opened-from      what a good header leaves
---     open-one         two answers that meet the statement are equal
+--     one-result       two results of one type that meet a statement are equal: the answer, and what is lent;  one-answer: of a call that only answers
+--     open-one         so of opening
 -- Assumes nothing.
-use mathlib.Core.Path.{_≡_, refl, sym, ap, ap₂, _∙_, subst}
-use mathlib.Core.Bool.{Bool, true, false, cond, true≢false}
+use mathlib.Core.Path.{_≡_, refl, sym, ap, _∙_, subst}
+use mathlib.Core.Bool.{true≢false}
 use mathlib.Core.List.{List, [], _∷_}
 use Prim.Native.Nat.{ℕ}
-use lib.Dec.{eqb}
-use Rattle.scope.specs.Answer.{Answer, good, abort, refused, After}
+use Rattle.scope.specs.Answer.{Answer, good, refused, After}
 use Rattle.scope.specs.Checks.{refuses, verdict}
 use Rattle.scope.specs.Refusal.{stands-in, those-of}
-use Rattle.scope.specs.Calls.{Call, Open, given-of, concerns, order, answers, when-good, when-refused, lent-before, lent-at-13, returned-refused, does}
-use Rattle.scope.proofs.CallLaws.{does-good, does-refused}
+use Rattle.scope.specs.Calls.{Call, Open, given-of, concerns, order, answers, when-good, lent-before, lent-at-13, returned-refused, does}
+use Rattle.scope.proofs.CallLaws.{is-refusal, does-good, refused-leaves}
 use Rattle.header.specs.declared.Counts.{Counts}
 use Rattle.header.specs.declared.Header.{Header}
 use Rattle.header.specs.declared.Header.the-variants.{Good as HeaderGood, Refused as HeaderRefused}
@@ -22,25 +22,14 @@ use Rattle.header.specs.Mirror.{header-of}
 use Rattle.header.specs.Opened.{Opened, IsOpened}
 use Rattle.header.proofs.HeaderLaws.{header-refused, header-good}
 
-abbrev refuses-it : Answer → Bool
-refuses-it (good l) = false
-refuses-it (abort o m) = false
-refuses-it (refused n p) = true
-
 pub good-is-not-refused : (l : List ℕ) (n p : ℕ) → ¬ (good l ≡ refused n p)
-good-is-not-refused l n p e = true≢false (sym (ap refuses-it e))
-
-cond-same : {A : Type 0} (b : Bool) (x : A) → cond b x x ≡ x
-cond-same true x = refl
-cond-same false x = refl
+good-is-not-refused l n p e = true≢false (sym (ap is-refusal e))
 
 -- a refused call that is lent nothing answers its refusal and nothing else
 module _ (n p : ℕ) where
   pub only-answer : (c : Call) → lent-at-13 c ≡ [] → lent-before c ≡ [] → returned-refused c n p ≡ [] → verdict (given-of c) (order c) ≡ refuses n p → answers (refused n p) ≡ does c
-  unfolding when-refused
   only-answer c e13 e r v =
-      sym (does-refused c n p v
-      ∙ (λ i. record { answer = refused n p; returned = r i; lent = (ap₂ (λ (x y : List (List ℕ)). cond (eqb n 13) x y) e13 e ∙ cond-same (eqb n 13) []) i }))
+      sym (refused-leaves c n p r (e13 ∙ sym e) v ∙ ap (λ (l : List (List ℕ)). record { answer = refused n p; returned = []; lent = l }) e)
 
   open-refuses : (s : List ℕ) → verdict (given-of (Open s)) (order (Open s)) ≡ refuses n p → answers (header-answer (HeaderRefused n p)) ≡ does (Open s)
   unfolding header-answer lent-at-13 lent-before returned-refused
@@ -74,5 +63,14 @@ header-inj (HeaderGood c) (HeaderRefused n p) e = absurd (good-is-not-refused _ 
 header-inj (HeaderRefused n p) (HeaderGood c) e = absurd (good-is-not-refused _ n p (sym e))
 header-inj (HeaderRefused n p) (HeaderRefused n′ p′) e = cc
 
+-- Two results that meet a statement are equal, of whatever type the answer is: what each stands for is the same.
+module _ {A : Type 0} (stands-for : A → Answer) (inj : (q r : A) → stands-for q ≡ stands-for r → q ≡ r) (x : After) (q r : A) where
+  pub one-result : (l m : List (List ℕ)) → record { answer = stands-for q; returned = []; lent = l } ≡ x → record { answer = stands-for r; returned = []; lent = m } ≡ x
+      → (q ≡ r) × (l ≡ m)
+  one-result l m a b = let e = a ∙ sym b in (inj q r (ap (λ (z : After). z .answer) e), ap (λ (z : After). z .lent) e)
+
+  pub one-answer : answers (stands-for q) ≡ x → answers (stands-for r) ≡ x → q ≡ r
+  one-answer a b = one-result [] [] a b .0
+
 pub open-one : (s : List ℕ) (q r : Header) → answers (header-answer q) ≡ does (Open s) → answers (header-answer r) ≡ does (Open s) → q ≡ r
-open-one s q r a b = header-inj q r (ap (λ (z : After). z .answer) (a ∙ sym b))
+open-one s = one-answer header-answer header-inj (does (Open s))

@@ -1,16 +1,15 @@
 -- The draws are what the one slice of tapes holds at absolute places, as far as they are used.
 --     drawn-in1, drawn-in2     an input's draws
 --     drawn-g1, drawn-g2       a site's draws at a gate that deals
-use mathlib.Core.Path.{_≡_, sym, ap, _∙_, subst}
-use mathlib.Core.Bool.{cond}
+use mathlib.Core.Path.{_≡_, sym, ap, _∙_}
 use mathlib.Core.List.{List}
-use Prim.Native.Nat.{ℕ, zero, suc, _+_, _*_, _≤_, _<_}
+use Prim.Native.Nat.{ℕ, _+_, _*_, _≤_, _<_}
 use native.Mathlib.Omega.{arith}
 use native.Mathlib.Nat.{zero-add}
 use lib.ListN.{getD, drop}
 use lib.Seq.{getD-take, getD-drop}
-use Rattle.sharing.specs.Sites.{Site, s1, s2, s3, of, is}
-use Rattle.sharing.specs.Circuit.{Gate, Circuit, dealing, ands, owned, all-owned}
+use Rattle.sharing.specs.Sites.{Site, s1, s2, s3, of}
+use Rattle.sharing.specs.Circuit.{Circuit, dealing, ands, owned, all-owned}
 use Rattle.sharing.specs.Tapes.{tape-length, cut, draws, read}
 use Rattle.sharing.proofs.SiteLaws.{is-itself}
 use Rattle.engine.proofs.EngineLaws.{owned-room, ands-room}

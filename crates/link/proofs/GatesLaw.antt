@@ -1,5 +1,5 @@
 -- The pass over the gates is the document's.
---     placed-eq, st-eq          equal places, equal states
+--     st-eq                     equal states
 --     place-next                the places after a gate that deals
 --     gate-law                  one gate: from state g to state (suc g)
 --     gates-law                 all of them
@@ -19,16 +19,14 @@ use Rattle.sharing.specs.Line.{at-gate, errors}
 use Rattle.sharing.specs.Store.{fill}
 use Rattle.sharing.proofs.RunLaws.{after-length, gates-length}
 use Rattle.engine.specs.declared.Pos.{Pos}
-use Rattle.engine.specs.Mirror.{St, st, placed, next-pos, and-on, gate-on, Lower, up-to}
+use Rattle.engine.specs.Mirror.{St, st, next-pos, and-on, gate-on, Lower}
+use Rattle.engine.proofs.EngineLaws.{placed-eq}
+use Rattle.circuit.specs.Loop.{up-to}
 use Rattle.link.specs.Link.{stored, Cut}
 use Rattle.link.specs.Loops.{base, place, state}
 use Rattle.link.proofs.GateLaws.{add-link}
 use Rattle.link.proofs.BitLinks.{not-bits, and-bits, or-bits}
 use Rattle.link.proofs.DrawLaws.{drawn-g1, drawn-g2}
-
--- four equal places
-pub placed-eq : {a b c d a′ b′ c′ d′ : ℕ} → a ≡ a′ → b ≡ b′ → c ≡ c′ → d ≡ d′ → placed a b c d ≡ placed a′ b′ c′ d′
-placed-eq p q r s = λ i. placed (p i) (q i) (r i) (s i)
 
 -- a state by its three parts
 pub st-eq : {a b c d : List ℕ} {p q : Pos} → a ≡ c → b ≡ d → p ≡ q → st a b p ≡ st c d q

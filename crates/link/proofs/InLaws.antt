@@ -7,12 +7,12 @@ use mathlib.Core.List.{List, [], _∷_, _++_}
 use Prim.Native.Nat.{ℕ, zero, suc, _<_}
 use native.Mathlib.Omega.{arith}
 use lib.ListN.{length, length-append}
-use lib.Dec.{eqb·suc-zero, eqb·suc-suc}
 use Rattle.sharing.specs.Ops.{Ops}
 use Rattle.sharing.specs.Sites.{s1, s2, s3, Trio}
 use Rattle.sharing.specs.Published.{Deal}
 use Rattle.sharing.specs.Steps.{Wire, in-wire}
 use Rattle.scope.specs.File.{site-of}
+use Rattle.circuit.proofs.SiteLaws.{by-number}
 use Rattle.messages.specs.Mirror.{on-line, in-pairs}
 use Rattle.steps.specs.Mirror.{put-held}
 use Rattle.messages.specs.declared.Held.{Held}
@@ -30,14 +30,10 @@ put-held-link n o c ws w e h x =
     (put-step n ws w e h s1 (x .at1) x refl) (put-step n ws w e h s2 (x .at2) x refl) (put-step n ws w e h s3 (x .at3) x refl)
 
 module _ (R : Ops) (er : ℕ → ℕ) (D : Deal) where
-  -- the tests of the code choose the site that the document reads; any number other than 1 and 2 is site 3 to both
+  -- the tests of the code choose the site that the document reads
   pub in-pairs-are : (owner : ℕ) → in-pairs owner (sent-of D) (on-line R er (sent-of D)) ≡ held-of (in-wire R er (site-of owner) D)
-  unfolding in-pairs on-line in-wire site-of
-  in-pairs-are zero = refl
-  in-pairs-are (suc zero) = refl
-  in-pairs-are (suc (suc zero)) = refl
-  in-pairs-are (suc (suc (suc k))) =
-      rw (eqb·suc-suc (suc (suc k)) 0, eqb·suc-zero (suc k), eqb·suc-suc (suc (suc k)) 1, eqb·suc-suc (suc k) 0, eqb·suc-zero k)
+  unfolding in-pairs on-line in-wire
+  in-pairs-are = by-number (λ s. held-of (in-wire R er s D))
 
   -- 01, step 1, for every owner's number
   pub in-link : (n : ℕ) (o : Trio (List ℕ)) → Cut n o → (ws : List Wire) (w : ℕ) → length ws ≡ w → w < n → (owner : ℕ)

@@ -1,76 +1,45 @@
 -- The pass over the inputs is the document's.
---     ins-many, ins-said         a wire for each input, and four delivered bits
---     own-place-is, in-pos-is    the tests of the code by the site that the document reads
+--     own-place-is               the tape that the code reads is the owner's
 --     in-law                     one input: from in-state i to in-state (suc i)
 --     inputs-law                 all of them
 --     in-start, joined           where the pass begins, and that the gates begin where it ends
 use mathlib.Core.Path.{_≡_, refl, sym, ap, ap₂, _∙_}
-use mathlib.Core.Bool.{cond}
 use mathlib.Core.List.{List, [], _∷_, _++_}
 use Prim.Native.Nat.{ℕ, zero, suc, _+_, _*_, _≤_, _<_}
 use native.Mathlib.Omega.{arith}
-use lib.ListN.{length, getD, length-append}
-use lib.Dec.{eqb·suc-zero, eqb·suc-suc}
-use Rattle.sharing.specs.Ops.{Ops, bits}
-use Rattle.sharing.specs.Sites.{Site, s1, s2, s3, Trio, is}
+use lib.ListN.{length, getD}
+use Rattle.sharing.specs.Ops.{bits}
+use Rattle.sharing.specs.Sites.{Site, s1, s2, s3, Trio}
 use Rattle.sharing.specs.Circuit.{Circuit, Draws, Errors, ands, owned}
 use Rattle.sharing.specs.Published.{Deal, deal}
-use Rattle.sharing.specs.Steps.{Wire, in-wire, delivered}
+use Rattle.sharing.specs.Steps.{Wire, in-wire}
 use Rattle.sharing.specs.Run.{ins-after, after, ins-delivered, gates-delivered}
 use Rattle.sharing.specs.Tapes.{read}
 use Rattle.sharing.specs.Line.{at-input, errors}
 use Rattle.sharing.specs.Store.{fill}
+use Rattle.sharing.proofs.RunLaws.{ins-length, ins-many}
 use Rattle.scope.specs.File.{site-of}
+use Rattle.circuit.proofs.SiteLaws.{by-number}
 use Rattle.messages.specs.Mirror.{deal-at, on-line, in-pairs}
 use Rattle.steps.specs.Mirror.{put-four, put-held}
 use Rattle.messages.specs.declared.Four.{Four}
 use Rattle.engine.specs.declared.Pos.{Pos}
-use Rattle.engine.specs.Mirror.{St, st, own-place, in-pos, input-on, up-to}
+use Rattle.engine.specs.Mirror.{St, st, own-place, in-pos, input-on}
+use Rattle.engine.proofs.EngineLaws.{placed-eq, one-more, in-pos-is}
+use Rattle.circuit.specs.Loop.{up-to}
 use Rattle.link.specs.Link.{stored, cut3, Cut, sent-of}
-use Rattle.link.specs.Loops.{base, place, in-places, in-place, in-moved, site-place, state, in-state}
+use Rattle.link.specs.Loops.{base, place, in-places, in-place, site-place, state, in-state}
 use Rattle.link.proofs.PartLaws.{store-none}
 use Rattle.link.proofs.GateLaws.{put-link4}
 use Rattle.link.proofs.InLaws.{in-link}
 use Rattle.link.proofs.DrawLaws.{drawn-in1, drawn-in2}
-use Rattle.link.proofs.GatesLaw.{placed-eq, st-eq}
-
--- ---- lengths
-module _ (R : Ops) (C : Circuit) (x : ℕ → ℕ) (T : Draws) (E : Errors) where
-  -- a wire for each input
-  pub ins-many : (i : ℕ) → length (ins-after R C x T E i) ≡ i
-  unfolding ins-after
-  ins-many zero = refl
-  ins-many (suc i) = length-append (ins-after R C x T E i) _ ∙ (let k = ins-many i in omega arith)
-
-  -- and four bits
-  pub ins-said : (i : ℕ) → length (ins-delivered R C x T E i) ≡ 4 * i
-  unfolding ins-delivered delivered
-  ins-said zero = refl
-  ins-said (suc i) = length-append (ins-delivered R C x T E i) _ ∙ (let k = ins-said i in omega arith)
+use Rattle.link.proofs.GatesLaw.{st-eq}
 
 -- ---- by owner
 -- the tape that the code reads is the owner's
 pub own-place-is : (owner : ℕ) (p : Pos) → own-place owner p ≡ site-place p (site-of owner)
-unfolding own-place site-of
-own-place-is zero p = refl
-own-place-is (suc zero) p = refl
-own-place-is (suc (suc zero)) p = refl
-own-place-is (suc (suc (suc k))) p =
-    rw (eqb·suc-suc (suc (suc k)) 0, eqb·suc-zero (suc k), eqb·suc-suc (suc (suc k)) 1, eqb·suc-suc (suc k) 0, eqb·suc-zero k)
-
--- one input more of one site
-abbrev pub one-more : Pos → Site → Pos
-one-more p s = in-moved p 1 (cond (is s1 s) 1 0) (cond (is s2 s) 1 0) (cond (is s3 s) 1 0)
-
--- and that place moves on
-pub in-pos-is : (owner : ℕ) (p : Pos) → in-pos owner p ≡ one-more p (site-of owner)
-unfolding in-pos site-of is
-in-pos-is zero p = placed-eq (omega arith) (omega arith) (omega arith) (omega arith)
-in-pos-is (suc zero) p = placed-eq (omega arith) (omega arith) (omega arith) (omega arith)
-in-pos-is (suc (suc zero)) p = placed-eq (omega arith) (omega arith) (omega arith) (omega arith)
-in-pos-is (suc (suc (suc k))) p =
-    rw (eqb·suc-suc (suc (suc k)) 0, eqb·suc-zero (suc k), eqb·suc-suc (suc (suc k)) 1, eqb·suc-suc (suc k) 0, eqb·suc-zero k)
-    (placed-eq (omega arith) (omega arith) (omega arith) (omega arith))
+unfolding own-place
+own-place-is owner p = by-number (site-place p) owner
 
 module _ (C : Circuit) (i : ℕ) where
   -- the owner's running place
@@ -122,7 +91,7 @@ module _ (C : Circuit) (x : ℕ → ℕ) (tapes line : List ℕ) (o : Trio (List
         ap (λ (k : Four). st (put-held n i (in-pairs owner k (on-line bits e k)) (stored o ws)) (put-four (4 * i) (on-line bits e k) (fill tr done)) (in-pos owner (in-place C i)))
         (deal-is i owner h q)
         ∙ st-eq (in-link bits e D n o c ws i (ins-many bits C x T E i) hn owner ∙ ap (λ (s : Site). stored o (ws ++ (in-wire bits e s D ∷ []))) (sym q))
-        (put-link4 bits tr done (4 * i) e D (ins-said bits C x T E i) r)
+        (put-link4 bits tr done (4 * i) e D (ins-length bits C x T E i) r)
         (in-pos-is owner (in-place C i) ∙ ap (one-more (in-place C i)) (sym q) ∙ in-place-suc C i)
 
     -- all inputs, whose owners are the numbers own

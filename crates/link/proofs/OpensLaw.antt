@@ -25,7 +25,8 @@ use Rattle.messages.specs.Mirror.{three, on-line-six, objects-of, opened-of}
 use Rattle.steps.specs.Mirror.{held-at, put-six}
 use Rattle.messages.specs.declared.Held.{Held}
 use Rattle.messages.specs.declared.Three.{Three}
-use Rattle.engine.specs.Mirror.{up-to, opening, objects-on, open-on, opens-on, put-three, hand-on, hands-on}
+use Rattle.engine.specs.Mirror.{opening, objects-on, open-on, opens-on, put-three, hand-on, hands-on}
+use Rattle.circuit.specs.Loop.{up-to}
 use Rattle.link.specs.Link.{cut3, held-of}
 use Rattle.link.proofs.FillLaws.{fill-three}
 use Rattle.link.proofs.PartLaws.{store-all, cut-ok}
@@ -87,7 +88,7 @@ module _ (file line : List ℕ) (x : ℕ → ℕ) (T : Draws) (n : ℕ) (hn : ci
     -- the first k
     pub opens-law : (k : ℕ) → ((j : ℕ) → j < k → C .out j < n) → at + 6 * k ≤ length tr
         → opens-on file line s n at (fill tr (gates-delivered bits C x T E (C .gates))) k ≡ fill tr (opens-delivered bits C x T E k)
-    unfolding opens-on up-to opens-delivered
+    unfolding up-to opens-delivered
     opens-law zero h r = refl
     opens-law (suc k) h r =
         ap (open-on file line s n at k) (opens-law k (λ j l. h j (omega arith)) (omega arith))
@@ -122,7 +123,7 @@ module _ (file line : List ℕ) (x : ℕ → ℕ) (T : Draws) (n : ℕ) (hn : ci
       -- the first k
       pub hands-law : (k : ℕ) → k ≤ m → ((j : ℕ) → j < k → C .out j < n) → 3 * k ≤ length outs
           → hands-on file trm s n at outs k ≡ fill outs (outputs bits C x T E k)
-      unfolding hands-on up-to outputs fill
+      unfolding up-to outputs fill
       hands-law zero l h r = refl
       hands-law (suc k) l h r =
           ap (hand-on file trm s n at k) (hands-law k (omega arith) (λ j i. h j (omega arith)) (omega arith))

@@ -17,7 +17,8 @@ use Rattle.sharing.specs.Store.{store, fill}
 use Rattle.sharing.proofs.RunLaws.{after-length}
 use Rattle.scope.specs.File.{circuit, owner-at}
 use Rattle.scope.specs.Calls.{at-wire}
-use Rattle.engine.specs.Mirror.{St, st, Lower, gate-on, input-on, up-to, inputs-on, gates-on}
+use Rattle.engine.specs.Mirror.{St, st, Lower, gate-on, input-on, inputs-on, gates-on}
+use Rattle.circuit.specs.Loop.{up-to}
 use Rattle.link.specs.Link.{cut3}
 use Rattle.link.specs.Loops.{place, in-place, state, in-state}
 use Rattle.link.proofs.PartLaws.{store-all, cut-ok}
@@ -42,7 +43,6 @@ module _ (f xs tapes line old tr : List ℕ) (e : length old ≡ 6 * wires (circ
 
   -- the state after the first i inputs
   pub inputs-are : (i : ℕ) → i ≤ C .ins → inputs-on f xs tapes line n (st old tr (in-place C 0)) i ≡ in-state C (at-wire xs) T E o tr i
-  unfolding inputs-on
   inputs-are i h =
       ap (λ (y : St). up-to (λ k. input-on tapes line n k (at-wire xs k) (owner-at f k)) y i) (in-start C (at-wire xs) T E n old tr)
       ∙ inputs-law C (at-wire xs) tapes line o tr n (cut-ok n old e) (owner-at f) i h (λ k l. refl) (omega arith) (omega arith)
@@ -50,7 +50,6 @@ module _ (f xs tapes line old tr : List ℕ) (e : length old ≡ 6 * wires (circ
   -- inputs and the first g gates
   pub gates-are : (g : ℕ) → g ≤ C .gates → ((k : ℕ) → k < g → Lower (C .gate k) (C .ins + k)) → 4 * C .ins + 12 * ands (C .gate) g ≤ length tr
       → gates-on f tapes line (C .ins) n (inputs-on f xs tapes line n (st old tr (in-place C 0)) (C .ins)) g ≡ state C (at-wire xs) T E o tr g
-  unfolding gates-on
   gates-are g h l q =
       ap (λ (y : St). up-to (λ k. gate-on tapes line n (C .ins + k) (C .gate k)) y g) (inputs-are (C .ins) (omega arith) ∙ joined C (at-wire xs) tapes line o tr)
       ∙ gates-law C (at-wire xs) tapes line o tr n (cut-ok n old e) g h l (omega arith) q

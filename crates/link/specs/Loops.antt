@@ -1,7 +1,6 @@
 -- The states of a run between its steps, as the document has them.
 --     base                where a site's tape begins in the one slice
 --     place, in-place     the running places after so many dealing gates, and after so many inputs
---     in-moved            running places after so many inputs more of each site
 --     site-place          a site's running place
 --     state, in-state     store, transcript and places after the first g gates, and after the first i inputs
 use mathlib.Core.List.{List}
@@ -33,10 +32,6 @@ in-places C i a b c = placed (base C s1 + 2 * a) (base C s2 + 2 * b) (base C s3 
 
 abbrev pub in-place : Circuit → ℕ → Pos
 in-place C i = in-places C i (owned (C .owner) s1 i) (owned (C .owner) s2 i) (owned (C .owner) s3 i)
-
--- from any places on
-abbrev pub in-moved : Pos → ℕ → ℕ → ℕ → ℕ → Pos
-in-moved p i a b c = placed (p .t1 + 2 * a) (p .t2 + 2 * b) (p .t3 + 2 * c) (p .at + 4 * i)
 
 abbrev pub site-place : Pos → Site → ℕ
 site-place p s1 = p .t1

@@ -1,1 +1,5 @@
-pub mod ListingLaws
+pub mod CleanLaws
+pub mod ToldLaws
+pub mod PartLaws
+pub mod JobLaws
+pub mod ListingOne

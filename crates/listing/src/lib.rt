@@ -1,7 +1,7 @@
 // The listing: from a job's bytes to its text. All rooms are of fixed size, so that no size is left to refuse: 42,496 bytes of line and as many
 // of transcript, 24,576 of store and 768 of outputs, what the largest circuit needs.
 ghost use mathlib.Core.Path.{_≡_};
-ghost use Prim.Native.Nat.{ℕ, _+_, _*_, _-_, _≤_};
+ghost use Prim.Native.Nat.{_+_, _*_, _-_, _≤_};
 ghost use lib.ListN.{length, take, drop};
 ghost use Rattle.sharing.specs.Ops.{bits};
 ghost use Rattle.sharing.specs.Circuit.{no-errors};

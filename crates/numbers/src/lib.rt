@@ -1,6 +1,6 @@
-// Numbers in a slice, the lowest byte first, as a circuit file and a job have them.
+// Numbers in a slice, the lowest byte first, as a circuit file and a job have them; a copy of a slice.
 ghost use mathlib.Core.Path.{_≡_};
-ghost use Prim.Native.Nat.{ℕ, _+_, _*_, _<_, _≤_};
+ghost use Prim.Native.Nat.{_+_, _*_, _<_, _≤_};
 ghost use lib.ListN.{length};
 ghost use Rattle.scope.specs.File.{le16, le32};
 
@@ -30,4 +30,17 @@ pub fn u32_at(file: &[u8], at: usize) -> u32
     ensures { λ r. ⌜ r ≡ le32 (now (file .entry)) at ⌝ }
 {
     wide32(u16_at(file, at)) + 65536 * wide32(u16_at(file, at + 2))
+}
+
+// A copy of a slice, into one as long.
+pub fn copy(from: &[u8], to: &mut [u8])
+    requires { ⌜ length (now from) ≡ length (now to) ⌝ }
+    ensures { λ _. ⌜ now (to .exit) ≡ now (from .entry) ⌝ }
+{
+    let n = from.len();
+    let mut k: usize = 0;
+    while k < n {
+        to[k] = from[k];
+        k += 1;
+    }
 }

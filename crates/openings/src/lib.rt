@@ -5,11 +5,15 @@ ghost use Prim.Native.Nat.{ℕ, suc, _+_, _*_, _<_, _≤_, min};
 ghost use lib.ListN.{length};
 ghost use lib.Dec.{eqb, ltb};
 ghost use Rattle.sharing.specs.First.{first};
+ghost use Rattle.scope.specs.File.{circuit};
 ghost use Rattle.circuit.specs.Checked.{Checked};
+ghost use Rattle.steps.specs.Mirror.{held-at};
 ghost use Rattle.engine.specs.Mirror.{objects-on, open-on, opens-on, put-three, hand-on, hands-on};
 use circuit::Output;
 use header::Counts;
+use messages::Held;
 use messages::Three;
+use messages::Two;
 
 // Where the run stops: the first output at which a site objects, with the sites that do; the number of outputs and 0 where none does.
 pub struct Stop {
@@ -17,7 +21,26 @@ pub struct Stop {
     pub sites: usize,
 }
 
-// Opens output k: what was delivered stands in the transcript, and the answer is the sites whose copies are unlike. The file is checked, so its wire is one of the store's.
+// What the three sites hold of the wire of output k. The file is checked, so its wire is one of the store's.
+pub fn output_pairs(file: &[u8], c: Counts, store: &[u8], k: usize) -> Held
+    requires { ⌜ Checked (now file) c × (k < c .outputs) ⌝ }
+    requires { ⌜ length (now store) ≡ 6 * (c .inputs + c .gates) ⌝ }
+    ensures { λ r. ⌜ r ≡ held-at (c .inputs + c .gates) (circuit (now (file .entry)) .out k) (now (store .entry)) ⌝ }
+{
+    let n = c.inputs + c.gates;
+    let r = reader::output_with(file, c, k);
+    let Output::Is(w) = r else {
+        let none = Two { x: 0, y: 0 };
+        return Held {
+            p1: none,
+            p2: none,
+            p3: none,
+        };
+    };
+    steps::held_at(store, n, w as usize)
+}
+
+// Opens output k: what was delivered stands in the transcript, and the answer is the sites whose copies are unlike.
 fn open_step(
     file: &[u8],
     c: Counts,
@@ -33,12 +56,7 @@ fn open_step(
     ensures { λ r. ⌜ r ≡ objects-on (now (file .entry)) (now (line .entry)) (now (store .entry)) (c .inputs + c .gates) at k ⌝ }
     ensures { λ _. ⌜ now (room .exit) ≡ open-on (now (file .entry)) (now (line .entry)) (now (store .entry)) (c .inputs + c .gates) at k (now (room .entry)) ⌝ }
 {
-    let n = c.inputs + c.gates;
-    let r = reader::output_with(file, c, k);
-    let Output::Is(w) = r else {
-        return 0;
-    };
-    let h = steps::held_at(store, n, w as usize);
+    let h = output_pairs(file, c, store, k);
     let g = steps::deliver6(line, room, at + 6 * k, h);
     messages::objecting(g)
 }
@@ -87,12 +105,7 @@ fn hand_step(file: &[u8], c: Counts, store: &[u8], tr: &[u8], outs: &mut [u8], a
     requires { ⌜ (at + 6 * c .outputs ≤ length (now tr)) × (length (now outs) ≡ 3 * c .outputs) × (at ≤ 65536) ⌝ }
     ensures { λ _. ⌜ now (outs .exit) ≡ hand-on (now (file .entry)) (now (tr .entry)) (now (store .entry)) (c .inputs + c .gates) at k (now (outs .entry)) ⌝ }
 {
-    let n = c.inputs + c.gates;
-    let r = reader::output_with(file, c, k);
-    let Output::Is(w) = r else {
-        return;
-    };
-    let h = steps::held_at(store, n, w as usize);
+    let h = output_pairs(file, c, store, k);
     let p = at + 6 * k;
     let m = messages::opened(h, tr[p + 3], tr[p], tr[p + 1]);
     put3(outs, 3 * k, m);

@@ -1,8 +1,8 @@
 // One site's pair of a wire, from its own bytes alone: its pairs of earlier wires and the plain values; and the next site's draws anew.
 // The work room holds plain values under the first inputs, then under the second, then the site's pairs: 4W bytes.
 ghost use mathlib.Core.Path.{_≡_};
-ghost use Prim.Native.Nat.{ℕ, _+_, _*_, _<_, _≤_};
-ghost use lib.ListN.{length, getD, set};
+ghost use Prim.Native.Nat.{_+_, _*_, _<_, _≤_};
+ghost use lib.ListN.{length};
 ghost use Rattle.sharing.specs.Ops.{bits};
 ghost use Rattle.sharing.specs.Circuit.{dealing};
 ghost use Rattle.sharing.specs.Steps.{local};

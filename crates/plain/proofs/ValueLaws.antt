@@ -2,7 +2,6 @@
 --     kind-law                     a gate's value on bytes is its Boolean value
 --     inputs-law, gates-law        buffers after the first k inputs, and after the first k gates
 --     read-gate                    a step with what was read of a gate is a step with what stands in the file
---     inputs-turn, gates-turn      one more input, one more gate
 --     values-law                   both passes, at the counts that the code holds
 -- Assumes nothing.
 use mathlib.Core.Path.{_≡_, refl, sym, ap, ap₂, _∙_, subst}
@@ -10,7 +9,6 @@ use mathlib.Core.Bool.{Bool, true, false, _||_}
 use mathlib.Core.List.{List, [], _∷_, _++_, map}
 use Prim.Native.Nat.{ℕ, zero, suc, _+_, _<_, _≤_}
 use native.Mathlib.Omega.{arith}
-use native.Mathlib.Numerals.{add-one}
 use lib.ListN.{length, getD, set, length-map, List·getD-map}
 use lib.Bits.{bitOr}
 use borrow.Author.Tests.{ne-eqb}
@@ -28,6 +26,7 @@ use Rattle.circuit.specs.Mirror.{gate-by}
 use Rattle.circuit.proofs.ReaderLaws.{gate-some}
 use Rattle.circuit.specs.Checked.{Checked}
 use Rattle.circuit.proofs.CheckedLaws.{operands-lower}
+use Rattle.circuit.specs.Loop.{up-to}
 use Rattle.plain.specs.Mirror.{kind-value, inputs-on, gate-on, gates-on}
 
 byte-either : (a b : Bool) → byte (a || b) ≡ bitOr (byte a) (byte b)
@@ -64,7 +63,7 @@ module _ (f xs old : List ℕ) where
   laid g = fill old (map byte (plain-values C xs g))
 
   inputs-law : (k : ℕ) → k ≤ length old → inputs-on xs old k ≡ fill old (map byte (plain-inputs xs k))
-  unfolding inputs-on plain-inputs fill
+  unfolding up-to plain-inputs fill
   inputs-law zero h = refl
   inputs-law (suc k) h =
       ap (λ (z : List ℕ). set z k (byte (bit (getD xs k 0)))) (inputs-law k (omega arith))
@@ -83,7 +82,7 @@ module _ (f xs old : List ℕ) where
         ∙ wire-on old vs (i + g) (plain-gate (C .gate g) vs) e (omega arith)
 
     gates-law : (g : ℕ) → g ≤ gates-of f → gates-on f (inputs-of f) (laid 0) g ≡ laid g
-    unfolding gates-on
+    unfolding up-to
     gates-law zero h = refl
     gates-law (suc g) h = ap (gate-on f (inputs-of f) g) (gates-law g (omega arith)) ∙ gate-law g (omega arith)
 
@@ -120,22 +119,6 @@ pub input-some : (x : ℕ) → (x ≡ 0 → ⊥) → 1 ≡ byte (bit x)
 unfolding byte bit
 input-some zero h = absurd (h refl)
 input-some (suc x) h = refl
-
-pub inputs-none : (xs vs : List ℕ) → vs ≡ inputs-on xs vs 0
-unfolding inputs-on
-inputs-none xs vs = refl
-
-pub inputs-turn : (xs old vs vs′ : List ℕ) (k : ℕ) → vs ≡ inputs-on xs old k → vs′ ≡ set vs k (byte (bit (getD xs k 0))) → vs′ ≡ inputs-on xs old (k + 1)
-unfolding inputs-on
-inputs-turn xs old vs vs′ k e q = q ∙ ap (λ (z : List ℕ). set z k (byte (bit (getD xs k 0)))) e ∙ ap (inputs-on xs old) (sym (add-one k))
-
-pub gates-none : (f : List ℕ) (i : ℕ) (vs : List ℕ) → vs ≡ gates-on f i vs 0
-unfolding gates-on
-gates-none f i vs = refl
-
-pub gates-turn : (f : List ℕ) (i : ℕ) (old vs vs′ : List ℕ) (k : ℕ) → vs ≡ gates-on f i old k → vs′ ≡ gate-on f i k vs → vs′ ≡ gates-on f i old (k + 1)
-unfolding gates-on
-gates-turn f i old vs vs′ k e q = q ∙ ap (gate-on f i k) e ∙ ap (gates-on f i old) (sym (add-one k))
 
 -- both passes, at the counts that the code holds
 pub values-law : (f xs old vs vs′ : List ℕ) (c : Counts) → Checked f c → length xs ≡ c .inputs → length old ≡ c .inputs + c .gates

@@ -1,22 +1,18 @@
 // Plain values: the Boolean value of every wire, with no sharing. One pass over the inputs, one over the gates.
 ghost use mathlib.Core.Path.{_≡_};
+ghost use mathlib.Core.List.{[], _∷_};
 ghost use Prim.Native.Nat.{_+_, _<_, _≤_};
 ghost use lib.ListN.{length, getD, set};
 ghost use Rattle.scope.specs.File.{circuit};
 ghost use Rattle.scope.specs.Plain.{bit, byte, plain};
 ghost use Rattle.scope.specs.Calls.{Plain, does};
 ghost use Rattle.circuit.specs.Checked.{Checked};
-ghost use Rattle.plain.specs.Answers.{plain-after};
-ghost use Rattle.plain.specs.Mirror.{kind-value, inputs-on, gate-on, gates-on, refusal-of};
+ghost use Rattle.checks.specs.Answers.{done-after};
+ghost use Rattle.plain.specs.Mirror.{kind-value, inputs-on, gate-on, gates-on};
+use checks::Done;
 use circuit::Gate;
 use header::Counts;
 use header::Header;
-
-// Good; a refusal's number and place.
-pub enum Valued {
-    Good,
-    Refused(usize, usize),
-}
 
 // An input's value: 1 for every byte but 0, so that nobody has to know here that inputs are bits.
 fn input_value(x: u8) -> u8
@@ -107,31 +103,21 @@ pub fn values_pass(file: &[u8], c: Counts, xs: &[u8], values: &mut [u8])
     gates_pass(file, c, values);
 }
 
-// A refusal of the circuit as this call's answer has it. A good header has none; nobody asks.
-fn refused(h: Header) -> Valued
-    ensures { λ r. ⌜ r ≡ refusal-of h ⌝ }
-{
-    match h {
-        Header::Good(_) => Valued::Refused(0, 0),
-        Header::Refused(n, p) => Valued::Refused(n, p),
-    }
-}
-
 // PUBLIC. The plain values of all wires, whatever is given, in a lent buffer of W bytes; a refusal leaves it as it was.
-pub fn plain_values(file: &[u8], inputs: &[u8], values: &mut [u8]) -> Valued
-    ensures { λ r. ⌜ plain-after r (now (values .exit)) ≡ does (Plain (now (file .entry)) (now (inputs .entry)) (now (values .entry))) ⌝ }
+pub fn plain_values(file: &[u8], inputs: &[u8], values: &mut [u8]) -> Done
+    ensures { λ r. ⌜ done-after r (now (values .exit) ∷ []) ≡ does (Plain (now (file .entry)) (now (inputs .entry)) (now (values .entry))) ⌝ }
 {
     let h = checks::check_file(file);
     let Header::Good(c) = h else {
-        return refused(h);
+        return checks::refused(h);
     };
     let x = slices::bits_fault(inputs, c.inputs);
     if x <= c.inputs {
-        return Valued::Refused(7, x);
+        return Done::Refused(7, x);
     }
     if values.len() != c.inputs + c.gates {
-        return Valued::Refused(10, 0);
+        return Done::Refused(10, 0);
     }
     values_pass(file, c, inputs, values);
-    Valued::Good
+    Done::Good
 }

@@ -1,20 +1,18 @@
 -- The questions to a file as calls.
 --     gate-out, .. gate-in ..    a question to a file, as the code meets it: the header's answer taken apart
 --     gate-inj, owner-inj, output-inj    an answer can be told from what it stands for
---     one-answer       two answers of one type that meet a statement are equal
---     gate-one, owner-one, output-one    so of a question to a file
+--     gate-one, owner-one, output-one    two answers to a question to a file are equal
 -- Assumes nothing.
 use mathlib.Core.Path.{_≡_, sym, ap, _∙_}
 use mathlib.Core.List.{List}
 use Prim.Native.Nat.{ℕ}
-use Rattle.scope.specs.Answer.{Answer, After}
 use Rattle.scope.specs.Calls.{GateAt, OwnerAt, OutputAt, answers, does}
 use Rattle.header.specs.declared.Counts.{Counts}
 use Rattle.header.specs.declared.Header.{Header}
 use Rattle.header.specs.declared.Header.the-variants.{Good as HeaderGood, Refused as HeaderRefused}
 use Rattle.header.specs.Mirror.{header-of}
 use Rattle.header.specs.Opened.{IsOpened}
-use Rattle.header.proofs.OpenLaws.{good-is-not-refused, opened-from}
+use Rattle.header.proofs.OpenLaws.{good-is-not-refused, opened-from, one-answer}
 use Rattle.circuit.specs.declared.Gate.{Gate}
 use Rattle.circuit.specs.declared.Gate.the-variants.{Is as GateIs, Refused as GateRefused}
 use Rattle.circuit.specs.declared.Owner.{Owner}
@@ -67,11 +65,7 @@ output-inj (OutputIs w) (OutputRefused n p) e = absurd (good-is-not-refused _ n 
 output-inj (OutputRefused n p) (OutputIs w) e = absurd (good-is-not-refused _ n p (sym e))
 output-inj (OutputRefused n p) (OutputRefused n′ p′) e = cc
 
--- two answers that meet a statement are equal, of whatever type: what each stands for is the same
-pub one-answer : {A : Type 0} (stands-for : A → Answer) → ((q r : A) → stands-for q ≡ stands-for r → q ≡ r)
-    → (x : After) (q r : A) → answers (stands-for q) ≡ x → answers (stands-for r) ≡ x → q ≡ r
-one-answer stands-for inj x q r a b = inj q r (ap (λ (z : After). z .answer) (a ∙ sym b))
-
+-- two answers that meet the statement are equal
 pub gate-one : (s : List ℕ) (k : ℕ) (q r : Gate) → answers (gate-answer q) ≡ does (GateAt s k) → answers (gate-answer r) ≡ does (GateAt s k) → q ≡ r
 gate-one s k = one-answer gate-answer gate-inj (does (GateAt s k))
 

@@ -1,7 +1,6 @@
 // The new tapes and the work room of a checked re-taping: both sets of plain values; a copy of the tapes, in which the next site's is anew.
 ghost use mathlib.Core.Path.{_≡_};
-ghost use mathlib.Core.List.{_++_};
-ghost use Prim.Native.Nat.{ℕ, _+_, _*_, _<_, _≤_};
+ghost use Prim.Native.Nat.{_+_, _*_, _≤_};
 ghost use lib.ListN.{length, take};
 ghost use Rattle.sharing.specs.Ops.{bits};
 ghost use Rattle.sharing.specs.Sites.{next, prev};
@@ -49,19 +48,6 @@ fn tape_of(site: usize, a: usize, b: usize, all: usize) -> Span
     Span {
         from: a + b,
         to: all,
-    }
-}
-
-// A copy of a slice.
-fn copy(from: &[u8], to: &mut [u8])
-    requires { ⌜ length (now from) ≡ length (now to) ⌝ }
-    ensures { λ _. ⌜ now (to .exit) ≡ now (from .entry) ⌝ }
-{
-    let n = from.len();
-    let mut k: usize = 0;
-    while k < n {
-        to[k] = from[k];
-        k += 1;
     }
 }
 
@@ -147,6 +133,6 @@ pub fn renew(
     let o = tape_of(site, one, two, all);
     let n = tape_of(after, one, two, all);
     let p = tape_of(before, one, two, all);
-    copy(tapes, fresh);
+    numbers::copy(tapes, fresh);
     pass_on(file, c, site, after, xs, ys, tapes, fresh, room, o, n, p);
 }

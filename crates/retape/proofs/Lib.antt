@@ -1,2 +1,1 @@
-pub mod CheckLaws
 pub mod RetapeCall

@@ -1,24 +1,19 @@
 // Re-taping: the tapes that explain one site's view by other inputs.
 ghost use mathlib.Core.Path.{_≡_};
 ghost use mathlib.Core.List.{[], _∷_};
-ghost use Prim.Native.Nat.{ℕ, _≤_};
+ghost use Prim.Native.Nat.{_≤_};
 ghost use Rattle.sharing.specs.Circuit.{ands};
 ghost use Rattle.scope.specs.File.{circuit};
 ghost use Rattle.scope.specs.Checks.{verdict};
 ghost use Rattle.scope.specs.Calls.{Retape, does};
 ghost use Rattle.header.specs.Opened.{Opened};
+ghost use Rattle.checks.specs.Answers.{done-after};
 ghost use Rattle.given.specs.Mirror.{found};
-ghost use Rattle.retape.specs.Answers.{retape-after};
-ghost use Rattle.retape.specs.Mirror.{retape-given, refusal-of};
+ghost use Rattle.retape.specs.Mirror.{retape-given};
+use checks::Done;
 use given::Fault;
 use header::Counts;
 use header::Header;
-
-// Good; a refusal's number and place.
-pub enum Retaped {
-    Good,
-    Refused(usize, usize),
-}
 
 // 7, 8, 11, 10 and 12 on an opened circuit of a AND and OR gates: slices, the site, the lengths of both buffers, the second inputs.
 fn given_fault(
@@ -67,16 +62,6 @@ fn given_fault(
     }
 }
 
-// A refusal of the circuit as re-taping's answer has it. A good header has none; nobody asks.
-fn refused(h: Header) -> Retaped
-    ensures { λ r. ⌜ r ≡ refusal-of h ⌝ }
-{
-    match h {
-        Header::Good(_) => Retaped::Refused(0, 0),
-        Header::Refused(n, p) => Retaped::Refused(n, p),
-    }
-}
-
 // PUBLIC. Re-taping, whatever is given. New tapes and work room are lent; a refusal leaves both as they were, but 13 leaves both sets of
 // plain values in the first 2W bytes of the work room.
 pub fn retape(
@@ -87,12 +72,12 @@ pub fn retape(
     site: usize,
     fresh: &mut [u8],
     room: &mut [u8],
-) -> Retaped
-    ensures { λ r. ⌜ retape-after r (now (fresh .exit)) (now (room .exit)) ≡ does (Retape (now (file .entry)) (now (inputs .entry)) (now (tapes .entry)) (now (second .entry)) site (now (fresh .entry)) (now (room .entry))) ⌝ }
+) -> Done
+    ensures { λ r. ⌜ done-after r (now (fresh .exit) ∷ now (room .exit) ∷ []) ≡ does (Retape (now (file .entry)) (now (inputs .entry)) (now (tapes .entry)) (now (second .entry)) site (now (fresh .entry)) (now (room .entry))) ⌝ }
 {
     let h = checks::check_file(file);
     let Header::Good(c) = h else {
-        return refused(h);
+        return checks::refused(h);
     };
     let a = tally::count_ands(file, c);
     let f = given_fault(
@@ -107,13 +92,13 @@ pub fn retape(
         room.len(),
     );
     if f.number != 0 {
-        return Retaped::Refused(f.number, f.place);
+        return Done::Refused(f.number, f.place);
     }
     renew::both_values(file, c, inputs, second, room);
     let d = differs::differ(file, c, site, inputs, second, room);
     if d < c.inputs + c.outputs {
-        return Retaped::Refused(13, d);
+        return Done::Refused(13, d);
     }
     renew::renew(file, c, a, site, inputs, second, tapes, fresh, room);
-    Retaped::Good
+    Done::Good
 }

@@ -1,5 +1,5 @@
 // Re-taping. Each slice has a room of its own.
-use retape::Retaped;
+use checks::Done;
 use stream::input;
 use stream::print;
 use stream::rooms;
@@ -69,8 +69,8 @@ fn retaped(
 ) {
     print::word(b"retape");
     match retape::retape(file, inputs, tapes, second, site, new_tapes, room) {
-        Retaped::Good => print::word(b" good\n"),
-        Retaped::Refused(n, p) => print::refused(n, p),
+        Done::Good => print::word(b" good\n"),
+        Done::Refused(n, p) => print::refused(n, p),
     }
     print::buffer(b"tapes", new_tapes);
     print::buffer(b"room", room);

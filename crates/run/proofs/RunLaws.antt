@@ -54,7 +54,7 @@ module _ (f : List ℕ) (x t l o r s : ℕ) (d : Ready f (counts-of f) x t l o r
 
     -- after the inputs
     pub gates-room : (xs tapes line old tr : List ℕ) (y : St) → y ≡ inputs-on f xs tapes line (wires C) (st old tr pos) (inputs-of f) → Room (all-ands C) t l r (y .pos)
-    unfolding in-places base tape-length owned in-moved
+    unfolding in-places base tape-length owned
     gates-room xs tapes line old tr y q =
         let m : y .pos ≡ in-moved (λ w. owned (C .owner) w (inputs-of f)) (inputs-of f) pos = ap (λ (z : St). z .pos) q ∙ inputs-pos f xs tapes line (wires C) (st old tr pos) (inputs-of f) in
         let m1 : y .pos .t1 ≡ pos .t1 + 2 * all-owned C s1 = ap (λ (z : Pos). z .t1) m in

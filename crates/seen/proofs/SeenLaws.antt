@@ -6,10 +6,9 @@
 use mathlib.Core.Path.{_≡_, refl, sym, ap, _∙_}
 use mathlib.Core.Bool.{Bool, true, false, cond}
 use mathlib.Core.List.{List, [], _∷_, _++_, append-nil}
-use Prim.Native.Nat.{ℕ, zero, suc, _+_, _*_, _≤_, _<_}
+use Prim.Native.Nat.{ℕ, suc, _+_, _*_, _≤_, _<_}
 use native.Mathlib.Omega.{arith}
 use lib.ListN.{length, length-append}
-use lib.Dec.{eqb·suc-zero, eqb·suc-suc}
 use Rattle.sharing.specs.Ops.{bits}
 use Rattle.sharing.specs.Sites.{Site, s1, s2, s3, Trio, is}
 use Rattle.sharing.specs.Circuit.{Circuit, Draws, none, no-errors}
@@ -21,6 +20,7 @@ use Rattle.sharing.specs.Tapes.{read}
 use Rattle.sharing.specs.Store.{fill}
 use Rattle.sharing.proofs.Seen.{got, ins-got}
 use Rattle.scope.specs.File.{site-of}
+use Rattle.circuit.proofs.SiteLaws.{by-number}
 use Rattle.messages.specs.Mirror.{two, four, deal-at, on-line, in-pairs}
 use Rattle.steps.specs.Mirror.{put-held}
 use Rattle.messages.specs.declared.Two.{Two}
@@ -33,8 +33,10 @@ use Rattle.link.proofs.BitLinks.{bits-zero}
 use Rattle.link.proofs.FillLaws.{fill-two}
 use Rattle.link.proofs.GatesLaw.{st-eq}
 use Rattle.link.proofs.InLaws.{in-link}
-use Rattle.link.proofs.InputsLaw.{ins-many, in-pos-is, one-more, in-place-suc, deal-is}
-use Rattle.seen.specs.Mirror.{pair-of-site, put-two, see-two, past-two, with-at, input-seen, ins-seen, state-seen}
+use Rattle.sharing.proofs.RunLaws.{ins-many}
+use Rattle.engine.proofs.EngineLaws.{in-pos-is, one-more}
+use Rattle.link.proofs.InputsLaw.{in-place-suc, deal-is}
+use Rattle.seen.specs.Mirror.{pair-of-site, put-two, see-two, past-two, with-at, input-seen, ins-seen}
 
 -- ---- a clean line
 pub on-none : (m : Four) → on-line bits none m ≡ m
@@ -43,14 +45,9 @@ on-none m = λ i. four (bits-zero (m .a) i) (bits-zero (m .b) i) (bits-zero (m .
 
 -- ---- an input
 module _ (D : Deal) where
-  -- any owner's number other than 1 and 2 is site 3's
   pub pairs-are : (owner : ℕ) → in-pairs owner (sent-of D) (sent-of D) ≡ held-of (hold (dealt (site-of owner) D))
-  unfolding in-pairs site-of
-  pairs-are zero = refl
-  pairs-are (suc zero) = refl
-  pairs-are (suc (suc zero)) = refl
-  pairs-are (suc (suc (suc k))) =
-      rw (eqb·suc-suc (suc (suc k)) 0, eqb·suc-zero (suc k), eqb·suc-suc (suc (suc k)) 1, eqb·suc-suc (suc k) 0, eqb·suc-zero k)
+  unfolding in-pairs
+  pairs-are = by-number (λ s. held-of (hold (dealt s D)))
 
   pub mine-of : (s t : Site) → pair-of-site s (held-of (hold (dealt t D))) ≡ two (mine s (dealt t D) .0) (mine s (dealt t D) .1)
   unfolding pair-of-site
@@ -84,9 +81,6 @@ module _ (s : Site) (C : Circuit) (x : ℕ → ℕ) (tapes : List ℕ) (o : Trio
 
   abbrev ins : ℕ → St
   ins i = ins-seen s C x T o old i
-
-  abbrev state : ℕ → St
-  state g = state-seen s C x T o old g
 
   abbrev dealt-at : ℕ → Deal
   dealt-at i = deal bits (x i) (T .in1 i) (T .in2 i)

@@ -1,5 +1,4 @@
 -- What the proofs of the steps cite.
---     site-one, site-two, site-else    the site that a number means
 --     seen-two, seen-own               two bits delivered, or not
 --     input-law                        an input, from what each stage gives
 --     own-seen, own-bound              the owner that was read is the file's
@@ -8,8 +7,7 @@ use mathlib.Core.Path.{_≡_, refl, sym, ap, _∙_, subst}
 use mathlib.Core.List.{List}
 use Prim.Native.Nat.{ℕ, zero, suc, _+_, _*_, _≤_}
 use Rattle.sharing.specs.Ops.{bits}
-use Rattle.sharing.specs.Sites.{Site, s1, s2, s3}
-use Rattle.scope.specs.File.{site-of}
+use Rattle.sharing.specs.Sites.{Site}
 use Rattle.messages.specs.Mirror.{deal-at, in-pairs}
 use Rattle.steps.specs.Mirror.{put-held}
 use Rattle.messages.specs.declared.Two.{Two}
@@ -19,23 +17,6 @@ use Rattle.engine.specs.declared.Pos.{Pos}
 use Rattle.engine.specs.Mirror.{St, st, own-place, in-pos}
 use Rattle.seen.specs.Mirror.{pair-of-site, put-two, see-two, past-two, with-at, input-seen}
 
--- ---- the site that a number means
-pub site-one : (k : ℕ) → k ≡ 1 → s1 ≡ site-of k
-unfolding site-of
-site-one k e = ap site-of (sym e)
-
-pub site-two : (k : ℕ) → k ≡ 2 → s2 ≡ site-of k
-unfolding site-of
-site-two k e = ap site-of (sym e)
-
-pub site-else : (k : ℕ) → (k ≡ 1 → ⊥) → (k ≡ 2 → ⊥) → s3 ≡ site-of k
-unfolding site-of
-site-else zero p q = refl
-site-else (suc zero) p q = absurd (p refl)
-site-else (suc (suc zero)) p q = absurd (q refl)
-site-else (suc (suc (suc k))) p q = refl
-
--- ---- an input
 pub seen-two : (own at : ℕ) (p : Two) (l m : List ℕ) → own ≡ 0 → m ≡ put-two at p l → (m ≡ see-two own at p l) × (at + 2 ≡ past-two own at)
 unfolding see-two past-two
 seen-two own at p l m z e = (e ∙ ap (λ (k : ℕ). see-two k at p l) (sym z), ap (λ (k : ℕ). past-two k at) (sym z))

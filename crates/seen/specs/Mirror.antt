@@ -29,9 +29,10 @@ use Rattle.messages.specs.declared.Four.{Four}
 use Rattle.messages.specs.declared.Twelve.{Twelve}
 use Rattle.messages.specs.declared.Held.{Held}
 use Rattle.engine.specs.declared.Pos.{Pos}
-use Rattle.engine.specs.Mirror.{St, st, placed, own-place, in-pos, up-to}
+use Rattle.engine.specs.Mirror.{St, st, placed, own-place, in-pos}
 use Rattle.link.specs.Link.{stored, Cut}
 use Rattle.link.specs.Loops.{place, in-place}
+use Rattle.circuit.specs.Loop.{up-to}
 
 unfoldable pub pair-of-site : Site → Held → Two
 pair-of-site s1 h = h .p1
@@ -80,7 +81,7 @@ gate-seen s tapes n w (AND a b) x = and-seen s tapes n a b w 0 x
 gate-seen s tapes n w (OR a b) x = and-seen s tapes n a b w 1 x
 gate-seen s tapes n w (NOT a) x = st (not-gate bits n a w (x .store)) (x .tr) (x .pos)
 
-unfoldable pub gates-seen : Site → List ℕ → List ℕ → ℕ → ℕ → St → ℕ → St
+abbrev pub gates-seen : Site → List ℕ → List ℕ → ℕ → ℕ → St → ℕ → St
 gates-seen s file tapes i n x k = up-to (λ g. gate-seen s tapes n (i + g) (circuit file .gate g)) x k
 
 -- ---- the document's states, over a store o and delivered bits old of whatever was there before

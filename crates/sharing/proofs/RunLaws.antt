@@ -109,7 +109,7 @@ unfolding objecting
 alike-none c h = rw (eq-eqb _ _ (h s1), eq-eqb _ _ (h s2), eq-eqb _ _ (h s3))
 
 module _ (R : Ops) (C : Circuit) (x : ℕ → ℕ) (T : Draws) (E : Errors) where
-  ins-length : (i : ℕ) → length (ins-delivered R C x T E i) ≡ 4 * i
+  pub ins-length : (i : ℕ) → length (ins-delivered R C x T E i) ≡ 4 * i
   unfolding ins-delivered delivered
   ins-length zero = refl
   ins-length (suc i) = length-append (ins-delivered R C x T E i) _ ∙ (let k = ins-length i in omega arith)
@@ -177,7 +177,7 @@ module _ (R : Ops) (C : Circuit) (x : ℕ → ℕ) (T : Draws) (E : Errors) wher
   unfolding made
   made-le = omega arith
 
-  ins-many : (i : ℕ) → length (ins-after R C x T E i) ≡ i
+  pub ins-many : (i : ℕ) → length (ins-after R C x T E i) ≡ i
   unfolding ins-after
   ins-many zero = refl
   ins-many (suc i) = length-append (ins-after R C x T E i) _ ∙ (let k = ins-many i in omega arith)

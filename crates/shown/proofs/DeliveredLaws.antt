@@ -38,13 +38,14 @@ use Rattle.messages.specs.Mirror.{two}
 use Rattle.steps.specs.Mirror.{held-at}
 use Rattle.messages.specs.declared.Two.{Two}
 use Rattle.messages.specs.declared.Held.{Held}
-use Rattle.engine.specs.Mirror.{St, up-to}
+use Rattle.engine.specs.Mirror.{St}
 use Rattle.link.specs.Link.{cut3, held-of}
 use Rattle.link.proofs.FillLaws.{fill-two}
 use Rattle.link.proofs.OpensLaw.{held-law}
 use Rattle.link.proofs.PartLaws.{store-all, cut-ok}
 use Rattle.seen.specs.Mirror.{pair-of-site, put-two, gates-seen, ins-seen, state-seen, Seeing, Begun}
 use Rattle.brings.proofs.GatesLaws.{gates-reach, begun}
+use Rattle.circuit.specs.Loop.{up-to}
 use Rattle.shown.specs.Mirror.{copies-of-site, opened-bit, copies-on, copies-all, opened-on, opened-all, all-seen}
 
 pub seeing-kept : (f : List ℕ) (c : Counts) (s : Site) (t g st g′ st′ : ℕ) → g′ ≡ g → st′ ≡ st → Seeing f c s t g st → Seeing f c s t g′ st′
@@ -89,7 +90,7 @@ module _ (f : List ℕ) (x : ℕ → ℕ) (tapes : List ℕ) (s : Site) (n : ℕ
 
   pub copies-are : (old : List ℕ) (at : ℕ) → length (gots 0) ≡ at → (k : ℕ) → ((j : ℕ) → j < k → C .out j < n) → at + 2 * k ≤ length old
       → copies-all s f w n at (fill old (gots 0)) k ≡ fill old (gots k)
-  unfolding copies-all up-to copies-on put-two all-got
+  unfolding up-to copies-on put-two all-got
   copies-are old at e zero h r = refl
   copies-are old at e (suc k) h r =
       let l = got-length bits s C x T k in let l0 = got-length bits s C x T 0 in
@@ -109,7 +110,7 @@ module _ (f : List ℕ) (x : ℕ → ℕ) (tapes : List ℕ) (s : Site) (n : ℕ
       fill-one old (tots k) k (opened-bit s (held-at n (C .out k) w)) (totals-many bits s C x T k) r ∙ ap (λ (z : ℕ). fill old (tots k ++ (z ∷ []))) v
 
   pub opened-are : (old : List ℕ) (k : ℕ) → ((j : ℕ) → j < k → C .out j < n) → k ≤ length old → opened-all s f w n old k ≡ fill old (seen-totals bits s C x T k)
-  unfolding opened-all up-to seen-totals fill
+  unfolding up-to seen-totals fill
   opened-are old zero h r = refl
   opened-are old (suc k) h r =
       ap (opened-on s f w n k) (opened-are old k (λ j q. h j (omega arith)) (omega arith)) ∙ opened-one old k (h k (omega arith)) r

@@ -1,8 +1,6 @@
 -- What the proofs of the functions that write a view's parts cite.
 --     own-yes, own-no, own-turn, own-room, own-end    own inputs
---     copy-none, copy-turn, copy-end     own tape
 --     copies-law, bit-law     an opening, from what each stage gives
---     copies-none, copies-turn, opened-none, opened-turn    the two passes over the outputs
 -- Assumes nothing.
 use mathlib.Core.Path.{_≡_, refl, sym, ap, _∙_}
 use mathlib.Core.Bool.{Bool, true, false, cond}
@@ -11,8 +9,7 @@ use Prim.Native.Nat.{ℕ, zero, suc, _+_, _*_, _<_, _≤_}
 use native.Mathlib.Omega.{arith}
 use native.Mathlib.Numerals.{add-one}
 use native.Mathlib.Nat.{le-antisymm}
-use lib.ListN.{length, getD, set, take}
-use lib.Seq.{take-suc, take-all, length-take-le}
+use lib.ListN.{length, getD, set}
 use Rattle.sharing.specs.Ops.{bits}
 use Rattle.sharing.specs.Sites.{Site, is, if-own}
 use Rattle.sharing.specs.Circuit.{Circuit, owned, all-owned}
@@ -27,10 +24,10 @@ use Rattle.header.specs.Opened.{Opened}
 use Rattle.steps.specs.Mirror.{held-at}
 use Rattle.messages.specs.declared.Two.{Two}
 use Rattle.messages.specs.declared.Held.{Held}
-use Rattle.engine.proofs.EngineLaws.{none-yet, turn, owned-room}
+use Rattle.engine.proofs.EngineLaws.{owned-room}
 use Rattle.seen.specs.Mirror.{pair-of-site, put-two}
 use Rattle.seen.proofs.InsLaws.{one-or-none}
-use Rattle.shown.specs.Mirror.{copies-of-site, opened-bit, put-own, copies-on, copies-all, opened-on, opened-all}
+use Rattle.shown.specs.Mirror.{copies-of-site, opened-bit, put-own, copies-on, opened-on}
 
 -- ---- own inputs
 pub own-no : (own q p v : ℕ) (l : List ℕ) → own ≡ q → own ≡ 0 → (l ≡ put-own q p v l) × (p ≡ p + q)
@@ -85,20 +82,6 @@ pub own-none : (s : Site) (C : Circuit) (x : ℕ → ℕ) (old : List ℕ) → (
 unfolding own-ins owned fill
 own-none s C x old = (refl, refl)
 
--- ---- own tape
-module _ (src old : List ℕ) (e : length old ≡ length src) where
-  pub copy-none : old ≡ fill old (take 0 src)
-  unfolding fill
-  copy-none = refl
-
-  pub copy-turn : (k : ℕ) (l : List ℕ) → l ≡ fill old (take k src) → k < length src → set l k (getD src k 0) ≡ fill old (take (k + 1) src)
-  copy-turn k l q h =
-      ap (λ (z : List ℕ). set z k (getD src k 0)) q ∙ fill-one old (take k src) k (getD src k 0) (length-take-le k src (omega arith)) (omega arith)
-      ∙ ap (fill old) (sym (take-suc src k 0 h)) ∙ ap (λ (m : ℕ). fill old (take m src)) (sym (add-one k))
-
-  pub copy-end : (k : ℕ) (l : List ℕ) → l ≡ fill old (take k src) → length src ≤ k → l ≡ src
-  copy-end k l q h = q ∙ ap (fill old) (take-all k src h) ∙ fill-all old src (sym e)
-
 -- ---- an opening
 pub copies-law : (s : Site) (file store : List ℕ) (n at k : ℕ) (h : Held) (p : Two) (l l′ : List ℕ) → h ≡ held-at n (circuit file .out k) store → p ≡ copies-of-site s h
     → l′ ≡ put-two (at + 2 * k) p l → l′ ≡ copies-on s file store n at k l
@@ -111,21 +94,3 @@ unfolding opened-on opened-bit
 bit-law s file store n k h p g l a b d =
     let P = b ∙ ap (pair-of-site s) a in let G = d ∙ ap (copies-of-site s) a in
     λ i. set l k (bits .add (bits .add (P i .x) (P i .y)) (G i .x))
-
-module _ (s : Site) (file store : List ℕ) (n at : ℕ) where
-  pub copies-none : (l : List ℕ) → l ≡ copies-all s file store n at l 0
-  unfolding copies-all
-  copies-none l = none-yet (copies-on s file store n at) l
-
-  pub copies-turn : (l : List ℕ) (k : ℕ) (x y : List ℕ) → x ≡ copies-all s file store n at l k → y ≡ copies-on s file store n at k x → y ≡ copies-all s file store n at l (k + 1)
-  unfolding copies-all
-  copies-turn l k x y e q = turn (copies-on s file store n at) l k x y e q
-
-module _ (s : Site) (file store : List ℕ) (n : ℕ) where
-  pub opened-none : (l : List ℕ) → l ≡ opened-all s file store n l 0
-  unfolding opened-all
-  opened-none l = none-yet (opened-on s file store n) l
-
-  pub opened-turn : (l : List ℕ) (k : ℕ) (x y : List ℕ) → x ≡ opened-all s file store n l k → y ≡ opened-on s file store n k x → y ≡ opened-all s file store n l (k + 1)
-  unfolding opened-all
-  opened-turn l k x y e q = turn (opened-on s file store n) l k x y e q

@@ -18,8 +18,8 @@ use Rattle.messages.specs.Mirror.{two}
 use Rattle.steps.specs.Mirror.{held-at}
 use Rattle.messages.specs.declared.Two.{Two}
 use Rattle.messages.specs.declared.Held.{Held}
-use Rattle.engine.specs.Mirror.{up-to}
 use Rattle.seen.specs.Mirror.{pair-of-site, put-two}
+use Rattle.circuit.specs.Loop.{up-to}
 
 unfoldable pub copies-of-site : Site → Held → Two
 copies-of-site s1 h = two (h .p2 .y) (h .p3 .x)
@@ -38,14 +38,14 @@ module _ (s : Site) (file store : List ℕ) (n at : ℕ) where
   unfoldable pub copies-on : ℕ → List ℕ → List ℕ
   copies-on k l = put-two (at + 2 * k) (copies-of-site s (held-at n (circuit file .out k) store)) l
 
-  unfoldable pub copies-all : List ℕ → ℕ → List ℕ
+  abbrev pub copies-all : List ℕ → ℕ → List ℕ
   copies-all l k = up-to copies-on l k
 
 module _ (s : Site) (file store : List ℕ) (n : ℕ) where
   unfoldable pub opened-on : ℕ → List ℕ → List ℕ
   opened-on k l = set l k (opened-bit s (held-at n (circuit file .out k) store))
 
-  unfoldable pub opened-all : List ℕ → ℕ → List ℕ
+  abbrev pub opened-all : List ℕ → ℕ → List ℕ
   opened-all l k = up-to opened-on l k
 
 abbrev pub all-seen : Site → List ℕ → List ℕ → List ℕ → List ℕ

@@ -1,7 +1,7 @@
-// The four parts of a site's view, each written into its own part of the view: own inputs, own tape, delivered bits, opened bits.
+// Three of the four parts of a site's view, each written into its own part of the view: own inputs, delivered bits, opened bits. Own tape is a copy.
 ghost use mathlib.Core.Path.{_≡_};
 ghost use mathlib.Core.Bool.{cond};
-ghost use Prim.Native.Nat.{ℕ, _+_, _*_, _<_, _≤_};
+ghost use Prim.Native.Nat.{_+_, _*_, _<_, _≤_};
 ghost use lib.ListN.{length, getD};
 ghost use Rattle.sharing.specs.Ops.{bits};
 ghost use Rattle.sharing.specs.Sites.{is};
@@ -14,10 +14,8 @@ ghost use Rattle.scope.specs.File.{circuit, site-of};
 ghost use Rattle.scope.specs.Calls.{at-wire};
 ghost use Rattle.header.specs.Opened.{Opened};
 ghost use Rattle.circuit.specs.Checked.{Checked};
-ghost use Rattle.steps.specs.Mirror.{held-at};
 ghost use Rattle.seen.specs.Mirror.{start-seen, Seeing};
 ghost use Rattle.shown.specs.Mirror.{copies-of-site, put-own, copies-on, copies-all, opened-on, opened-all, all-seen};
-use circuit::Output;
 use engine::Pos;
 use header::Counts;
 use messages::Held;
@@ -59,18 +57,6 @@ pub fn own_inputs(file: &[u8], c: Counts, xs: &[u8], part: &mut [u8], site: usiz
     }
 }
 
-// "own tape"
-pub fn own_tape(tape: &[u8], part: &mut [u8])
-    requires { ⌜ length (now part) ≡ length (now tape) ⌝ }
-    ensures { λ _. ⌜ now (part .exit) ≡ now (tape .entry) ⌝ }
-{
-    let mut k: usize = 0;
-    while k < tape.len() {
-        part[k] = tape[k];
-        k += 1;
-    }
-}
-
 // Of the six bits of an opening, the two that reach the site: both copies of the part that it lacks.
 fn copies_of_site(h: Held, site: usize) -> Two
     ensures { λ r. ⌜ r ≡ copies-of-site (site-of site) h ⌝ }
@@ -93,25 +79,6 @@ fn copies_of_site(h: Held, site: usize) -> Two
     }
 }
 
-// What the three sites hold of the wire of output k. The file is checked, so its wire is one of the store's.
-fn output_pairs(file: &[u8], c: Counts, store: &[u8], k: usize) -> Held
-    requires { ⌜ Checked (now file) c × (k < c .outputs) ⌝ }
-    requires { ⌜ length (now store) ≡ 6 * (c .inputs + c .gates) ⌝ }
-    ensures { λ r. ⌜ r ≡ held-at (c .inputs + c .gates) (circuit (now (file .entry)) .out k) (now (store .entry)) ⌝ }
-{
-    let n = c.inputs + c.gates;
-    let r = reader::output_with(file, c, k);
-    let Output::Is(w) = r else {
-        let none = Two { x: 0, y: 0 };
-        return Held {
-            p1: none,
-            p2: none,
-            p3: none,
-        };
-    };
-    steps::held_at(store, n, w as usize)
-}
-
 fn copies_step(
     file: &[u8],
     c: Counts,
@@ -126,7 +93,7 @@ fn copies_step(
     requires { ⌜ (at + 2 * c .outputs ≤ length (now got)) × (at ≤ 65536) ⌝ }
     ensures { λ _. ⌜ now (got .exit) ≡ copies-on (site-of site) (now (file .entry)) (now (store .entry)) (c .inputs + c .gates) at k (now (got .entry)) ⌝ }
 {
-    let h = output_pairs(file, c, store, k);
+    let h = openings::output_pairs(file, c, store, k);
     let p = copies_of_site(h, site);
     seen::put_two(got, at + 2 * k, p);
 }
@@ -173,7 +140,7 @@ fn opened_step(file: &[u8], c: Counts, store: &[u8], part: &mut [u8], site: usiz
     requires { ⌜ (length (now store) ≡ 6 * (c .inputs + c .gates)) × (length (now part) ≡ c .outputs) ⌝ }
     ensures { λ _. ⌜ now (part .exit) ≡ opened-on (site-of site) (now (file .entry)) (now (store .entry)) (c .inputs + c .gates) k (now (part .entry)) ⌝ }
 {
-    let h = output_pairs(file, c, store, k);
+    let h = openings::output_pairs(file, c, store, k);
     let p = seen::pair_of_site(h, site);
     let g = copies_of_site(h, site);
     part[k] = p.x ^ p.y ^ g.x;

@@ -1,2 +1,3 @@
 pub mod BitsLaws
+pub mod ChainLaws
 pub mod JobLaws

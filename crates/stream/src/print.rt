@@ -96,7 +96,7 @@ fn flush(text: &[u8; 4096], waiting: usize, most: usize) -> usize
 }
 
 // The first n bytes of a text.
-fn front(text: &[u8], n: usize)
+pub fn front(text: &[u8], n: usize)
     requires { ⌜ n ≤ length (now text) ⌝ }
 {
     word(&text[..n]);

@@ -6,23 +6,21 @@
 -- Assumes nothing.
 use mathlib.Core.Path.{_≡_, refl, sym, ap, ap₂, _∙_, subst}
 use mathlib.Core.Bool.{Bool, true, false, cond, not, _&&_}
-use mathlib.Core.List.{List, [], _∷_}
+use mathlib.Core.List.{List, []}
 use Prim.Native.Nat.{ℕ, zero, suc, _+_, _*_, _≤_, _<_}
 use native.Mathlib.Omega.{arith}
 use native.Mathlib.Numerals.{add-one}
 use native.Mathlib.Nat.{le-antisymm}
-use lib.ListN.{getD}
 use lib.Dec.{eqb}
 use Rattle.sharing.specs.Sites.{Site, s1, s2, s3, next, is}
 use Rattle.sharing.specs.Circuit.{Gate, XOR, AND, OR, NOT, dealing}
 use Rattle.sharing.specs.Traffic.{input-adds, gate-adds, output-adds, sum, entry, traffic-table, no-table}
-use Rattle.scope.specs.File.{circuit, site-of, owner-at, inputs-of, gates-of, outputs-of}
-use Rattle.scope.specs.Answer.{Answer, good, refused, number-of, After}
-use Rattle.scope.specs.Checks.{accepted, refuses, verdict}
+use Rattle.scope.specs.File.{circuit, site-of, inputs-of, gates-of, outputs-of}
+use Rattle.scope.specs.Answer.{good, refused, number-of, After}
+use Rattle.scope.specs.Checks.{verdict}
 use Rattle.scope.specs.Refusal.{stands-in, those-of}
-use Rattle.scope.specs.Calls.{Call, Check, Traffic, given-of, concerns, order, answers, when-good, when-refused, lent-before, lent-at-13, returned-refused, does}
-use Rattle.scope.proofs.CallLaws.{does-good, does-refused, refused-verdict, good-accepts, accepts-passes}
-use Rattle.scope.proofs.Refusals.{passes-accepted}
+use Rattle.scope.specs.Calls.{Check, Traffic, given-of, concerns, order, answers, when-good, when-refused, lent-before, lent-at-13, returned-refused, does}
+use Rattle.scope.proofs.CallLaws.{cond-same, does-good, does-refused}
 use Rattle.circuit.specs.declared.Owner.{Owner}
 use Rattle.circuit.specs.declared.Owner.the-variants.{Is as OwnerIs}
 use Rattle.circuit.specs.Mirror.{owner-by}
@@ -32,8 +30,7 @@ use Rattle.header.specs.declared.Header.{Header}
 use Rattle.header.specs.declared.Header.the-variants.{Good, Refused}
 use Rattle.header.specs.Answers.{header-answer}
 use Rattle.header.specs.Opened.{Opened}
-use Rattle.circuit.specs.Checked.{Checked}
-use Rattle.circuit.specs.Checked.{IsChecked}
+use Rattle.checks.proofs.FrontLaws.{circuit-refuses, circuit-passes}
 use Rattle.entries.specs.Mirror.{table-of, plus, Under, from-input, from-gate, from-output}
 use Rattle.traffic.specs.Answers.{place-of}
 use Rattle.traffic.specs.declared.Refusal.{Refusal}
@@ -197,34 +194,17 @@ whole-is s c i g o ig r op ei eg eo e1 e2 =
     (eo ∙ ap (sums-upto output-steps) (op .outs-are))
     ∙ plus-tables (λ a b. f a b + h a b) w
 
-same-either : {A : Type 0} (b : Bool) (x : A) → cond b x x ≡ x
-same-either true x = refl
-same-either false x = refl
-
-gone : (s : List ℕ) (n p : ℕ) → verdict (given-of (Traffic s)) (order (Traffic s)) ≡ refuses n p → does (Traffic s) ≡ record { answer = refused n p; returned = no-table; lent = [] }
-unfolding returned-refused when-refused lent-at-13 lent-before
-gone s n p v = does-refused (Traffic s) n p v ∙ (λ i. record { answer = refused n p; returned = no-table; lent = same-either (eqb n 13) [] i })
-
--- the call, by the check's answer
+-- the call, by the check's answer: it checks the circuit and nothing else
 module _ (s : List ℕ) (h : Header) (e : answers (header-answer h) ≡ does (Check s)) where
-  check-refused : (n p : ℕ) → h ≡ Refused n p → verdict (given-of (Check s)) (order (Check s)) ≡ refuses n p
-  unfolding header-answer
-  check-refused n p q = refused-verdict (Check s) n p (ap (λ (z : After). z .answer) (sym e) ∙ ap header-answer q)
-
-  check-accepted : (c : Counts) → h ≡ Good c → verdict (given-of (Check s)) (order (Check s)) ≡ accepted
-  unfolding header-answer
-  check-accepted c q = passes-accepted (given-of (Check s)) (order (Check s)) (accepts-passes (Check s) (good-accepts (Check s) _ (ap (λ (z : After). z .answer) (sym e) ∙ ap header-answer q)))
-
-  same : verdict (given-of (Traffic s)) (order (Traffic s)) ≡ verdict (given-of (Check s)) (order (Check s))
-  unfolding given-of order concerns
-  same = refl
-
   pub traffic-refused : (n p : ℕ) → h ≡ Refused n p → does (Traffic s) ≡ record { answer = refused n p; returned = no-table; lent = [] }
-  traffic-refused n p q = gone s n p (same ∙ check-refused n p q)
+  unfolding given-of order concerns those-of stands-in returned-refused when-refused lent-at-13 lent-before
+  traffic-refused n p q =
+      does-refused (Traffic s) n p (circuit-refuses (given-of (Traffic s)) refl h e n p q [])
+      ∙ (λ i. record { answer = refused n p; returned = no-table; lent = cond-same {A = List (List ℕ)} (eqb n 13) [] i })
 
   pub traffic-good : (c : Counts) → h ≡ Good c → does (Traffic s) ≡ record { answer = good []; returned = traffic-table (circuit s); lent = [] }
-  unfolding when-good
-  traffic-good c q = does-good (Traffic s) (same ∙ check-accepted c q)
+  unfolding given-of order concerns those-of stands-in when-good verdict
+  traffic-good c q = does-good (Traffic s) (circuit-passes (given-of (Traffic s)) refl h e c q [])
 
 -- what the code leaves in the two numbers, and returns
 pub numbers-are : (s : List ℕ) (h : Header) (r : Refusal) → answers (header-answer h) ≡ does (Check s) → r ≡ refusal-by h
@@ -251,6 +231,3 @@ pub traffic-one : (s : List ℕ) (t u : List (List ℕ)) (n m p q : ℕ)
     → (u ≡ does (Traffic s) .returned) × (m ≡ number-of (does (Traffic s) .answer)) × (q ≡ place-of (does (Traffic s) .answer))
     → (t ≡ u) × (n ≡ m) × (p ≡ q)
 traffic-one s t u n m p q a b = (a .0 ∙ sym (b .0), a .1 ∙ sym (b .1), a .2 ∙ sym (b .2))
-
-pub checked-from : (h : Header) (s : List ℕ) (c : Counts) → h ≡ Good c → IsChecked h s → Opened s c
-checked-from h s c e k = (subst (λ (z : Header). IsChecked z s) e k) .opened

@@ -1,6 +1,6 @@
 // Traffic: a table of sent bits, three senders by three receivers, by value, filled step by step and returned.
 ghost use mathlib.Core.Path.{_≡_};
-ghost use Prim.Native.Nat.{ℕ, _+_, _*_, _<_, _≤_};
+ghost use Prim.Native.Nat.{_+_, _*_, _<_, _≤_};
 ghost use Rattle.scope.specs.File.{circuit};
 ghost use Rattle.scope.specs.Answer.{number-of};
 ghost use Rattle.scope.specs.Calls.{Traffic, does};
@@ -9,7 +9,6 @@ ghost use Rattle.header.specs.Opened.{Opened};
 ghost use Rattle.traffic.specs.Answers.{place-of};
 ghost use Rattle.entries.specs.Mirror.{table-of, plus, Under};
 ghost use Rattle.traffic.specs.Mirror.{input-steps, gate-steps, output-steps, sums-upto, refusal-by};
-use circuit::Gate;
 use circuit::Owner;
 use header::Counts;
 use header::Header;

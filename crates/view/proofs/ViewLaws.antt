@@ -1,23 +1,19 @@
 -- What the proofs of a view cite.
---     slices-stop, fault-11, fault-10, no-fault    7, 8, 11 and 10, as the code goes through them
+--     view-sizes              how long the two buffers are to be, by what is counted
 --     fill-part               a part of a buffer that is filled from the front is back
 --     tape-cut                the site's tape, in the one slice
 --     laid, in-order          the places of the four parts
 --     view-whole              the four parts together are the document's view
 -- Assumes nothing.
 use mathlib.Core.Path.{_≡_, refl, sym, ap, ap₂, _∙_}
-use mathlib.Core.Bool.{Bool, true, false, not, cond, true≢false}
 use mathlib.Core.List.{List, [], _∷_, _++_, append-assoc}
-use Prim.Native.Nat.{ℕ, _+_, _*_, _-_, _<_, _≤_}
+use Prim.Native.Nat.{ℕ, _+_, _*_, _-_, _≤_}
 use native.Mathlib.Omega.{arith}
-use lib.ListN.{length, getD, take, drop, length-append, length-drop}
+use lib.ListN.{length, take, drop, length-append, length-drop}
 use lib.Seq.{take-at, drop-at, drop-drop, take-all}
-use lib.Dec.{eqb}
-use borrow.Author.Tests.{ne-eqb}
 use Rattle.sharing.specs.Ops.{bits}
 use Rattle.sharing.specs.Sites.{Site, s1, s2, s3, of}
 use Rattle.sharing.specs.Circuit.{Circuit, ands, all-ands, owned, all-owned}
-use Rattle.sharing.specs.First.{first}
 use Rattle.sharing.specs.Tapes.{tape-length, tapes-sum, cut, read}
 use Rattle.sharing.specs.Store.{fill}
 use Rattle.sharing.specs.View.{own-ins, view-from}
@@ -27,103 +23,22 @@ use Rattle.sharing.proofs.StoreLaws.{fill-all}
 use Rattle.sharing.proofs.TapeLaws.{tapes-length, read-tape}
 use Rattle.sharing.proofs.ViewLaws.{view-is}
 use Rattle.scope.specs.File.{site-of, circuit}
-use Rattle.scope.specs.Checks.{Given, Row, one-to-three, tested, at-places, row, refusal-table, fault, accepted, refuses, verdict}
 use Rattle.scope.specs.Calls.{at-wire, view-wants}
-use Rattle.scope.proofs.Refusals.{row-refuses, row-passes}
 use Rattle.scope.proofs.RunCall.{bit-draws}
 use Rattle.header.specs.declared.Counts.{Counts}
 use Rattle.header.specs.Opened.{Opened}
-use Rattle.faults.specs.Mirror.{wrong-size}
 use Rattle.engine.specs.declared.Pos.{Pos}
 use Rattle.link.specs.Loops.{base, in-places, in-place, site-place}
-use Rattle.given.specs.declared.Fault.{Fault}
-use Rattle.given.specs.Mirror.{slices, found}
-use Rattle.given.proofs.GivenLaws.{nothing, ands-are, found-refuses, found-passes}
+use Rattle.given.proofs.GivenLaws.{ands-are}
 use Rattle.shown.specs.Mirror.{all-seen, totals-seen}
-use Rattle.view.specs.Mirror.{view-given, Ready, Laid}
+use Rattle.view.specs.Mirror.{Ready, Laid}
 
--- ---- 7, 8, 11, 10
--- a test that was asked the other way round
-pub told-no : (a b : Bool) → a ≡ b → not a ≡ true → b ≡ false
-told-no true b e h = absurd (true≢false (sym h))
-told-no false b e h = sym e
-
-pub told-yes : (a b : Bool) → a ≡ b → not a ≡ false → b ≡ true
-told-yes true b e h = sym e
-told-yes false b e h = absurd (true≢false h)
-
-module _ (f x t : List ℕ) (s v st : ℕ) (c : Counts) (a : ℕ) (op : Opened f c) (ea : a ≡ ands (circuit f .gate) (c .gates)) where
-  abbrev g : Given
-  g = view-given f x t s v st
-
-  -- the row of the site
-  abbrev site-row : Row
-  site-row = at-places 1 ((0, not (one-to-three s)) ∷ [])
-
-  row-11 : row g 11 ≡ site-row
-  unfolding row refusal-table
-  row-11 = refl
-
-  site-bad : one-to-three s ≡ false → 0 ≡ fault site-row
-  unfolding fault first tested
-  site-bad e = rw e
-
-  site-good : one-to-three s ≡ true → 1 ≡ fault site-row
-  unfolding fault first tested
-  site-good e = rw e
-
-  -- the row of buffers
-  module _ (own : ℕ) (eo : own ≡ owned (circuit f .owner) (site-of s) (c .inputs)) where
-    abbrev sizes : List ℕ
-    sizes = v ∷ st ∷ []
-
-    abbrev wants : List ℕ
-    wants = (2 * c .inputs + own + 6 * a + 3 * c .outputs) ∷ 6 * (c .inputs + c .gates) ∷ []
-
-    own-is : own ≡ all-owned (circuit f) (site-of s)
-    own-is = eo ∙ ap (owned (circuit f .owner) (site-of s)) (op .ins-are)
-
-    wants-are : wants ≡ view-wants (circuit f) s
-    wants-are = λ i. (2 * op .ins-are i + own-is i + 6 * ands-are f x t c a op ea i + 3 * op .outs-are i) ∷ 6 * (op .ins-are i + op .gates-are i) ∷ []
-
-    abbrev row-of : List ℕ → Row
-    row-of w = record { span = length w; bad = λ p. not (eqb (getD sizes p 0) (getD w p 0)) }
-
-    row-10 : row g 10 ≡ row-of wants
-    unfolding row refusal-table
-    row-10 = λ i. row-of (sym wants-are i)
-
-    abbrev Sized : ℕ → Type 0
-    Sized b = b ≡ first (wrong-size sizes wants) 2
-
-    sized : (b : ℕ) → Sized b → b ≡ fault (row-of wants)
-    unfolding fault wrong-size
-    sized b e = e
-
-  module _ (u : Fault) (e78 : found u ≡ verdict (slices f x t) (7 ∷ 8 ∷ [])) where
-    front : found u ≡ verdict g (7 ∷ 8 ∷ [])
-    unfolding verdict row refusal-table
-    front = e78
-
-    pub slices-stop : (u .number ≡ 0 → ⊥) → found u ≡ verdict g (7 ∷ 8 ∷ 11 ∷ 10 ∷ [])
-    slices-stop n = ap (λ (b : Bool). cond b accepted (refuses (u .number) (u .place))) (ne-eqb (u .number) 0 n) ∙ found-refuses g (7 ∷ 8 ∷ []) (11 ∷ 10 ∷ []) u front n
-
-    module _ (z : u .number ≡ 0) where
-      past-8 : verdict g (11 ∷ 10 ∷ []) ≡ verdict g (7 ∷ 8 ∷ 11 ∷ 10 ∷ [])
-      past-8 = found-passes g (7 ∷ 8 ∷ []) (11 ∷ 10 ∷ []) u front z
-
-      pub fault-11 : one-to-three s ≡ false → refuses 11 0 ≡ verdict g (7 ∷ 8 ∷ 11 ∷ 10 ∷ [])
-      fault-11 e = row-refuses g 11 (10 ∷ []) _ 0 row-11 (site-bad e) (omega arith) ∙ past-8
-
-      module _ (k : one-to-three s ≡ true) (own : ℕ) (eo : own ≡ owned (circuit f .owner) (site-of s) (c .inputs)) where
-        past-11 : verdict g (10 ∷ []) ≡ verdict g (7 ∷ 8 ∷ 11 ∷ 10 ∷ [])
-        past-11 = row-passes g 11 (10 ∷ []) _ 1 row-11 (site-good k) (omega arith) ∙ past-8
-
-        pub fault-10 : (b : ℕ) → Sized own eo b → b < 2 → refuses 10 b ≡ verdict g (7 ∷ 8 ∷ 11 ∷ 10 ∷ [])
-        fault-10 b e h = row-refuses g 10 [] _ b (row-10 own eo) (sized own eo b e) h ∙ past-11
-
-        pub no-fault : (b : ℕ) → Sized own eo b → 2 ≤ b → accepted ≡ verdict g (7 ∷ 8 ∷ 11 ∷ 10 ∷ [])
-        no-fault b e h = nothing g ∙ row-passes g 10 [] _ b (row-10 own eo) (sized own eo b e) h ∙ past-11
+-- "view 0 view, 1 store", by what is counted
+pub view-sizes : (f : List ℕ) (c : Counts) (a : ℕ) (op : Opened f c) (ea : a ≡ ands (circuit f .gate) (c .gates)) (s own : ℕ) → own ≡ owned (circuit f .owner) (site-of s) (c .inputs)
+    → (2 * c .inputs + own + 6 * a + 3 * c .outputs) ∷ 6 * (c .inputs + c .gates) ∷ [] ≡ view-wants (circuit f) s
+view-sizes f c a op ea s own eo =
+    let o : own ≡ all-owned (circuit f) (site-of s) = eo ∙ ap (owned (circuit f .owner) (site-of s)) (op .ins-are) in
+    λ i. (2 * op .ins-are i + o i + 6 * ands-are f c a op ea i + 3 * op .outs-are i) ∷ 6 * (op .ins-are i + op .gates-are i) ∷ []
 
 -- ---- the four parts
 -- a part is back, behind what was filled so far

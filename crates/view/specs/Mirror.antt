@@ -1,6 +1,5 @@
 -- What the inner functions of a view lean on and compute. No public contract cites these.
 --     view-given       what a view is given, with the lengths of its buffers
---     refusal-of       a circuit's refusal as a view's
 --     Ready            what the checks leave: every length
 --     Laid             where the parts of a view begin and end, and the site's tape
 use mathlib.Core.Path.{_≡_}
@@ -14,21 +13,13 @@ use Rattle.scope.specs.Checks.{whole, Given, tapes-want}
 use Rattle.scope.specs.Calls.{view-wants}
 use Rattle.header.specs.declared.Counts.{Counts}
 use Rattle.circuit.specs.Checked.{Checked}
-use Rattle.header.specs.declared.Header.{Header}
-use Rattle.header.specs.declared.Header.the-variants.{Good, Refused as HeaderRefused}
 use Rattle.engine.specs.declared.Pos.{Pos}
 use Rattle.link.specs.Loops.{base}
 use Rattle.seen.specs.Mirror.{start-seen, Seeing}
-use Rattle.view.specs.declared.Viewed.{Viewed}
-use Rattle.view.specs.declared.Viewed.the-variants.{Refused}
 
 abbrev pub view-given : List ℕ → List ℕ → List ℕ → ℕ → ℕ → ℕ → Given
 view-given f x t s v st =
     record { file = f; inputs = x; tapes = t; line = []; second = []; site = s; asked = whole; sizes = v ∷ st ∷ []; wanted = view-wants (circuit f) s; job = [] }
-
-abbrev pub refusal-of : Header → Viewed
-refusal-of (Good c) = Refused 0 0
-refusal-of (HeaderRefused n p) = Refused n p
 
 pub record Ready (f : List ℕ) (c : Counts) (s x t v st : ℕ) : Type 0 where
   pub checked : Checked f c

@@ -1,7 +1,7 @@
 // The view of one site on a clean line: every check, then the four parts of the view, each written into its own part of the buffer.
 ghost use mathlib.Core.Path.{_≡_};
 ghost use mathlib.Core.List.{[], _∷_};
-ghost use Prim.Native.Nat.{ℕ, _+_, _*_, _<_, _≤_};
+ghost use Prim.Native.Nat.{_+_, _*_, _<_, _≤_};
 ghost use lib.ListN.{length};
 ghost use Rattle.sharing.specs.Ops.{bits};
 ghost use Rattle.sharing.specs.Circuit.{no-errors, ands};
@@ -14,19 +14,14 @@ ghost use Rattle.scope.specs.Checks.{verdict};
 ghost use Rattle.scope.specs.Calls.{at-wire, View, does};
 ghost use Rattle.header.specs.Opened.{Opened};
 ghost use Rattle.link.specs.Loops.{site-place};
+ghost use Rattle.checks.specs.Answers.{done-after};
 ghost use Rattle.given.specs.Mirror.{found};
-ghost use Rattle.view.specs.Answers.{view-after};
-ghost use Rattle.view.specs.Mirror.{view-given, refusal-of, Ready, Laid};
+ghost use Rattle.view.specs.Mirror.{view-given, Ready, Laid};
+use checks::Done;
 use engine::Pos;
 use given::Fault;
 use header::Counts;
 use header::Header;
-
-// Good; a refusal's number and place.
-pub enum Viewed {
-    Good,
-    Refused(usize, usize),
-}
 
 // 7, 8, 11, then 10 on an opened circuit of a AND and OR gates: slices, site, then the lengths of the two buffers, of which the view's hangs on the site.
 fn given_fault(
@@ -109,7 +104,7 @@ fn fill_view(
 {
     let n = view.len();
     shown::own_inputs(file, c, xs, &mut view[0..own], site);
-    shown::own_tape(&tapes[t..u], &mut view[own..d]);
+    numbers::copy(&tapes[t..u], &mut view[own..d]);
     shown::delivered(file, c, xs, tapes, store, &mut view[d..e], site, pos);
     shown::opened_bits(file, c, store, &mut view[e..n], site);
 }
@@ -153,16 +148,6 @@ fn view_checked(
     );
 }
 
-// A refusal of the circuit as the view's answer has it. A good header has none; nobody asks.
-fn refused(h: Header) -> Viewed
-    ensures { λ r. ⌜ r ≡ refusal-of h ⌝ }
-{
-    match h {
-        Header::Good(_) => Viewed::Refused(0, 0),
-        Header::Refused(n, p) => Viewed::Refused(n, p),
-    }
-}
-
 // PUBLIC. What a site sees of a run on a clean line, whatever is given. View and store are lent; a refusal leaves both as they were. The store
 // holds afterwards what a clean run's store holds.
 pub fn view_of(
@@ -172,18 +157,18 @@ pub fn view_of(
     site: usize,
     view: &mut [u8],
     store: &mut [u8],
-) -> Viewed
-    ensures { λ r. ⌜ view-after r (now (view .exit)) (now (store .exit)) ≡ does (View (now (file .entry)) (now (inputs .entry)) (now (tapes .entry)) site (now (view .entry)) (now (store .entry))) ⌝ }
+) -> Done
+    ensures { λ r. ⌜ done-after r (now (view .exit) ∷ now (store .exit) ∷ []) ≡ does (View (now (file .entry)) (now (inputs .entry)) (now (tapes .entry)) site (now (view .entry)) (now (store .entry))) ⌝ }
 {
     let h = checks::check_file(file);
     let Header::Good(c) = h else {
-        return refused(h);
+        return checks::refused(h);
     };
     let a = tally::count_ands(file, c);
     let f = given_fault(file, c, a, inputs, tapes, site, view.len(), store.len());
     if f.number != 0 {
-        return Viewed::Refused(f.number, f.place);
+        return Done::Refused(f.number, f.place);
     }
     view_checked(file, c, a, inputs, tapes, site, view, store);
-    Viewed::Good
+    Done::Good
 }

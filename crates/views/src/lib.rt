@@ -1,8 +1,8 @@
 // The view. Each slice has a room of its own.
+use checks::Done;
 use stream::input;
 use stream::print;
 use stream::rooms;
-use view::Viewed;
 
 // Reads what the call is given, then what it is lent, makes it and answers whether to go on.
 pub fn view(site: usize) -> bool {
@@ -56,8 +56,8 @@ fn viewed(
 ) {
     print::word(b"view");
     match view::view_of(file, inputs, tapes, site, view, store) {
-        Viewed::Good => print::word(b" good\n"),
-        Viewed::Refused(n, p) => print::refused(n, p),
+        Done::Good => print::word(b" good\n"),
+        Done::Refused(n, p) => print::refused(n, p),
     }
     print::buffer(b"view", view);
     print::buffer(b"store", store);

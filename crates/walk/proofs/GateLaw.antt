@@ -6,20 +6,19 @@
 -- Assumes nothing.
 use mathlib.Core.Path.{_≡_, refl, sym, ap, ap₂, _∙_}
 use mathlib.Core.List.{List, [], _∷_, _++_, map, append-nil}
-use Prim.Native.Nat.{ℕ, zero, suc, _+_, _*_, _≤_, _<_}
+use Prim.Native.Nat.{ℕ, suc, _+_, _*_, _≤_, _<_}
 use native.Mathlib.Omega.{arith}
-use native.Mathlib.Nat.{add-zero}
 use lib.ListN.{length, getD}
 use lib.Bits.{xor-zero-r}
 use Rattle.sharing.specs.Ops.{bits}
-use Rattle.sharing.specs.Sites.{Site, s1, s2, s3, next, prev, of}
+use Rattle.sharing.specs.Sites.{Site, s1, s2, s3, next, prev}
 use Rattle.sharing.specs.Circuit.{Gate, XOR, AND, OR, NOT, Circuit, Draws, dealing, ands, all-owned}
 use Rattle.sharing.specs.Values.{values}
 use Rattle.sharing.specs.Order.{if-deals}
-use Rattle.sharing.specs.Published.{Parts, no-parts, total, gate-parts, parts}
+use Rattle.sharing.specs.Published.{Parts, gate-parts, parts}
 use Rattle.sharing.specs.Steps.{Pair, add-pair, local}
 use Rattle.sharing.specs.Tapes.{draws, tape}
-use Rattle.sharing.specs.Retape.{mine, rest, next-product, flip-mine, next-shares, shift, retape}
+use Rattle.sharing.specs.Retape.{mine, rest, next-product, flip-mine, next-shares, retape}
 use Rattle.sharing.specs.Store.{fill}
 use Rattle.sharing.proofs.BitLaws.{bit-group}
 use Rattle.sharing.proofs.Parts.{value, parts-ok}
@@ -29,7 +28,7 @@ use Rattle.sharing.proofs.Mine.{product-mine, gate-mine, gate-mine-is, look-min
 use Rattle.scope.proofs.RunCall.{bit-draws}
 use Rattle.messages.specs.Mirror.{two, pair-of}
 use Rattle.messages.specs.declared.Two.{Two}
-use Rattle.engine.specs.Mirror.{Lower, up-to}
+use Rattle.engine.specs.Mirror.{Lower}
 use Rattle.link.proofs.FillLaws.{fill-two}
 use Rattle.pairs.specs.declared.Places.{Places}
 use Rattle.pairs.specs.declared.Mixed.{Mixed}

@@ -12,7 +12,7 @@ use Prim.Native.Nat.{ℕ, zero, suc, _+_, _*_, _-_, _≤_, _<_}
 use native.Mathlib.Omega.{arith}
 use lib.ListN.{length, getD, take, drop, length-append, List·getD-append, take-append-drop}
 use Rattle.sharing.specs.Ops.{bits}
-use Rattle.sharing.specs.Sites.{Site, s1, s2, s3, next, prev, of, is, if-own}
+use Rattle.sharing.specs.Sites.{Site, next, prev, of, is, if-own}
 use Rattle.sharing.specs.Circuit.{Circuit, Draws, owned}
 use Rattle.sharing.specs.Published.{Parts, no-parts, share, ins-parts, parts}
 use Rattle.sharing.specs.Steps.{Pair}

@@ -3,17 +3,15 @@
 --     fits-own, fits-next, fits-prev   room for an input's draws, by owner
 --     input-own, input-next, input-prev    an input of the site itself, of the next one, of the one before
 --     in-room, gate-room               what the whole pass has room for, each step has
---     gates-none, gates-turn           one more gate
 use mathlib.Core.Path.{_≡_, refl, sym, ap, _∙_, subst}
-use mathlib.Core.Logic.{⊎-elim}
 use mathlib.Core.Bool.{Bool, true, false, cond, true≢false}
 use mathlib.Core.List.{List}
 use Prim.Native.Nat.{ℕ, zero, suc, _+_, _*_, _≤_, _<_}
 use native.Mathlib.Omega.{arith}
-use lib.ListN.{length, getD}
+use lib.ListN.{length}
 use Rattle.sharing.specs.Ops.{bits}
-use Rattle.sharing.specs.Sites.{Site, s1, s2, s3, next, prev, is}
-use Rattle.sharing.specs.Circuit.{Gate, XOR, AND, OR, NOT, Circuit, dealing, ands, owned, all-owned}
+use Rattle.sharing.specs.Sites.{Site, next, prev, is}
+use Rattle.sharing.specs.Circuit.{Gate, XOR, AND, OR, NOT, Circuit, dealing, ands, owned}
 use Rattle.sharing.specs.Tapes.{tape-length}
 use Rattle.sharing.proofs.SiteLaws.{alike-two}
 use Rattle.scope.specs.File.{circuit}
@@ -21,10 +19,10 @@ use Rattle.site.specs.Mirror.{put-at}
 use Rattle.messages.specs.Mirror.{deal-at}
 use Rattle.messages.specs.declared.Four.{Four}
 use Rattle.steps.specs.Mirror.{on-part}
-use Rattle.engine.specs.Mirror.{up-to}
-use Rattle.engine.proofs.EngineLaws.{ands-room, owned-room, none-yet, turn}
+use Rattle.engine.proofs.EngineLaws.{ands-room, owned-room}
 use Rattle.pairs.specs.declared.Places.{Places}
 use Rattle.pairs.specs.Mirror.{Fits, St, st, places, forward-of, put-two, and-on, gate-on}
+use Rattle.circuit.specs.Loop.{up-to}
 use Rattle.walk.specs.Mirror.{step-own, step-next, step-prev, InFits, Lengths, input-on, gates-on}
 
 module _ (r : ℕ) where
@@ -132,7 +130,7 @@ module _ (s : Site) (own nx pv : List ℕ) where
 
   module _ (file : List ℕ) (i n : ℕ) (x : St) where
     gates-at : (k : ℕ) → gates-on file s own nx pv i n x k .at ≡ onward (ands (circuit file .gate) k) (x .at)
-    unfolding gates-on up-to ands
+    unfolding up-to ands
     gates-at zero = stays (x .at)
     gates-at (suc k) =
         gate-moves n (i + k) (circuit file .gate k) (gates-on file s own nx pv i n x k)
@@ -150,12 +148,3 @@ module _ (s : Site) (own nx pv : List ℕ) where
         let e3 : y .at .prev ≡ x .at .prev + 2 * ands (circuit file .gate) k = ap (λ (z : Places). z .prev) m in
         let o1 = o .one in let o2 = o .two in let o3 = o .thr in
         record { one = omega arith; two = omega arith; thr = omega arith; few-own = o .few-own; few-next = o .few-next; few-prev = o .few-prev }
-
-    pub gates-none : x ≡ gates-on file s own nx pv i n x 0
-    unfolding gates-on
-    gates-none = none-yet (λ g. gate-on s own nx pv n (i + g) (circuit file .gate g)) x
-
-    pub gates-turn : (y z : St) (k : ℕ) → y ≡ gates-on file s own nx pv i n x k → z ≡ gate-on s own nx pv n (i + k) (circuit file .gate k) y
-        → z ≡ gates-on file s own nx pv i n x (k + 1)
-    unfolding gates-on
-    gates-turn y z k e q = turn (λ g. gate-on s own nx pv n (i + g) (circuit file .gate g)) x k y z e q

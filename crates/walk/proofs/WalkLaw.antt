@@ -7,7 +7,7 @@
 -- Assumes nothing.
 use mathlib.Core.Path.{_≡_, refl, sym, ap, ap₂, _∙_, subst}
 use mathlib.Core.Logic.{⊎-elim}
-use mathlib.Core.List.{List, [], _∷_, _++_, append-nil}
+use mathlib.Core.List.{List, _++_, append-nil}
 use Prim.Native.Nat.{ℕ, zero, suc, _+_, _*_, _≤_, _<_}
 use native.Mathlib.Omega.{arith}
 use native.Mathlib.Numerals.{add-one}
@@ -16,12 +16,12 @@ use lib.ListN.{length, getD, take, drop, length-append, length-drop, List·getD-
 use lib.Seq.{getD-append-add, length-take-le}
 use Rattle.sharing.specs.Ops.{bits}
 use Rattle.sharing.specs.Sites.{Site, next, prev, is}
-use Rattle.sharing.specs.Circuit.{Circuit, Draws, wires, ands, all-ands, owned, all-owned, dealing}
+use Rattle.sharing.specs.Circuit.{Circuit, Draws, wires, ands, all-ands, owned, all-owned}
 use Rattle.sharing.specs.Values.{value-inputs, values}
 use Rattle.sharing.specs.Published.{parts}
 use Rattle.sharing.specs.Tapes.{tape-length, draws, tape}
 use Rattle.sharing.specs.Retape.{mine, retape}
-use Rattle.sharing.specs.Store.{side, fill}
+use Rattle.sharing.specs.Store.{side}
 use Rattle.sharing.proofs.StoreLaws.{side-length, fill-all}
 use Rattle.sharing.proofs.TapeLaws.{gates-length}
 use Rattle.scope.specs.File.{inputs-of, gates-of, kind-at, first-at, second-at, gate-of, circuit}
@@ -32,10 +32,10 @@ use Rattle.scope.proofs.PlainLaws.{plain-is, plain-length}
 use Rattle.header.specs.declared.Counts.{Counts}
 use Rattle.header.specs.Opened.{Opened}
 use Rattle.circuit.specs.Checked.{Checked}
-use Rattle.engine.specs.Mirror.{Lower, up-to}
+use Rattle.engine.specs.Mirror.{Lower}
 use Rattle.engine.proofs.EngineLaws.{lower-of, ands-room, owned-room}
-use Rattle.pairs.specs.declared.Places.{Places}
-use Rattle.pairs.specs.Mirror.{Fits, St, st, places, gate-on}
+use Rattle.pairs.specs.Mirror.{Fits, St, gate-on}
+use Rattle.circuit.specs.Loop.{up-to}
 use Rattle.walk.specs.Mirror.{around, InFits, Lengths, input-on, room-with, in-state, state, gates-on, Walked}
 use Rattle.walk.proofs.StepLaws.{in-room}
 use Rattle.walk.proofs.StateLaws.{parts-many, st-eq, places-eq, in-law}
@@ -179,7 +179,6 @@ module _ (f : List ℕ) (c : Counts) (ck : Checked f c) (s : Site) (xs ys own nx
 
   pub walked : Bits xs (c .inputs) → Bits ys (c .inputs) → take (2 * (c .inputs + c .gates)) room ≡ both-plain (circuit f) xs ys
       → (z w : St) → z ≡ first-pass → w ≡ gates-on f s own nx pv (c .inputs) (c .inputs + c .gates) z (c .gates) → Walked s (circuit f) xs ys own nx pv (w .room) (w .moved)
-  unfolding gates-on
   walked bx by p z w e q =
       let C : Circuit = circuit f in
       let i = ck .opened .ins-are in let g = ck .opened .gates-are in

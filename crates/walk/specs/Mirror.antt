@@ -24,8 +24,8 @@ use Rattle.sharing.specs.Store.{side, fill}
 use Rattle.pairs.specs.declared.Places.{Places}
 use Rattle.scope.specs.File.{circuit}
 use Rattle.scope.specs.Calls.{at-wire, both-plain}
-use Rattle.engine.specs.Mirror.{up-to}
 use Rattle.pairs.specs.Mirror.{St, st, places, put-two, put-wire, gate-on}
+use Rattle.circuit.specs.Loop.{up-to}
 
 abbrev pub around : {A : Type 0} → Site → A → A → A → Trio A
 around s1 o n p = record { at1 = o; at2 = n; at3 = p }
@@ -94,7 +94,7 @@ module _ (s : Site) (C : Circuit) (x y : ℕ → ℕ) (own nx pv : List ℕ) (va
       (places (2 * (all-owned C s + ands (C .gate) g)) (2 * (all-owned C (next s) + ands (C .gate) g)) (2 * (all-owned C (prev s) + ands (C .gate) g)))
 
 -- a state after the first k gates of a file with i inputs and n wires
-unfoldable pub gates-on : List ℕ → Site → List ℕ → List ℕ → List ℕ → ℕ → ℕ → St → ℕ → St
+abbrev pub gates-on : List ℕ → Site → List ℕ → List ℕ → List ℕ → ℕ → ℕ → St → ℕ → St
 gates-on file s own nx pv i n q k = up-to (λ g. gate-on s own nx pv n (i + g) (circuit file .gate g)) q k
 
 -- what both passes leave: plain values and the site's pairs, and the next site's tape with new draws

@@ -1,8 +1,7 @@
 // A site's pairs of all wires and the next site's tape anew: one pass over the inputs, one over the gates.
 ghost use mathlib.Core.Path.{_≡_};
-ghost use Prim.Native.Nat.{ℕ, _+_, _*_, _<_, _≤_};
+ghost use Prim.Native.Nat.{_+_, _*_, _<_};
 ghost use lib.ListN.{length, getD, take, drop};
-ghost use Rattle.sharing.specs.Ops.{bits};
 ghost use Rattle.sharing.specs.Sites.{is, next as after-it};
 ghost use Rattle.sharing.specs.Circuit.{ands};
 ghost use Rattle.scope.specs.File.{circuit, site-of};

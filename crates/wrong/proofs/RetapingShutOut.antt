@@ -20,9 +20,8 @@ use Rattle.scope.specs.Checks.{tested, row-owner, good-gate, row-gate, row-outp
 use Rattle.scope.specs.Refusal.{stands-in, those-of}
 use Rattle.scope.specs.Calls.{Call, View, Retape, given-of, fixed-order, concerns, order, settle, does, Accepts}
 use Rattle.scope.proofs.CallLaws.{good-accepts}
-use Rattle.retape.specs.declared.Retaped.{Retaped}
-use Rattle.retape.specs.Answers.{retape-answer}
-use Rattle.view.specs.Answers.{view-answer}
+use Rattle.checks.specs.declared.Done.{Done}
+use Rattle.checks.specs.Answers.{done-answer}
 use Rattle.demands.specs.Marked.{K-file, K-tapes, untouched, K-retape, good-with}
 use Rattle.demands.proofs.Marked.{marked}
 use Rattle.wrong.specs.Retaping.{TapeEngine, TapeMeets, TapeMeetsOn, hands-old-tapes-back, refuses-freely, ViewMeetsOn, in-order, ten-before-eleven, twelve-before-ten, views-in-order, retapes-in-order}
@@ -43,14 +42,14 @@ handing-back-fails-on-K8 lays m = one-not-zero (ap (λ (z : After). getD (getD (
 
 pub refusing-freely-fails : (n p : ℕ) (file inputs tapes second : List ℕ) (site : ℕ) (fresh room : List ℕ) → Accepts (Retape file inputs tapes second site fresh room)
     → ¬ TapeMeetsOn (refuses-freely n p) file inputs tapes second site fresh room
-unfolding Accepts retape-answer
+unfolding Accepts done-answer
 refusing-freely-fails n p file inputs tapes second site fresh room a m = a n p (sym (ap (λ (z : After). z .answer) m))
 
 pub refusing-freely-fails-on-K8 : (n p : ℕ) → ¬ OnK8 (refuses-freely n p)
 refusing-freely-fails-on-K8 n p = refusing-freely-fails n p _ _ _ _ _ _ _ (good-accepts (K-retape 3 (1 ∷ 0 ∷ []) (0 ∷ 1 ∷ [])) [] (ap (λ (z : After). z .answer) K8))
 
 -- so are the second draw flipped, another neighbour's tape, and whatever else is not these tapes
-pub K8-only : (r : Retaped) (fresh room : List ℕ) → TapeMeets K-file (1 ∷ 0 ∷ []) K-tapes (0 ∷ 1 ∷ []) 3 (untouched 10) (untouched 12) r fresh room
+pub K8-only : (r : Done) (fresh room : List ℕ) → TapeMeets K-file (1 ∷ 0 ∷ []) K-tapes (0 ∷ 1 ∷ []) 3 (untouched 10) (untouched 12) r fresh room
     → fresh ≡ 0 ∷ 0 ∷ 0 ∷ 1 ∷ 0 ∷ 1 ∷ 0 ∷ 1 ∷ 1 ∷ 0 ∷ []
 K8-only r fresh room m = ap (λ (z : After). getD (z .lent) 0 []) (m ∙ K8)
 
@@ -67,10 +66,10 @@ unfolding is dealing ands owned first le16 le32 size owner-at kind-at first-at s
 promised = (refl, refl, refl)
 
 -- and the number that comes in another order
-told : (number-of (view-answer (views-in-order ten-before-eleven K-file (1 ∷ 1 ∷ []) K-tapes 4 [] [] .0)) ≡ 10)
-    × (number-of (retape-answer (retapes-in-order ten-before-eleven K-file (1 ∷ 1 ∷ []) K-tapes (1 ∷ 1 ∷ []) 4 [] [] .0)) ≡ 10)
-    × (number-of (retape-answer (retapes-in-order twelve-before-ten K-file (1 ∷ 1 ∷ []) K-tapes [] 3 [] [] .0)) ≡ 12)
-unfolding is dealing ands owned first le16 le32 size owner-at kind-at first-at second-at output-at site-of gate-of tested row-owner good-gate row-gate row-output refusal-table row fault verdict given-of concerns those-of stands-in settle number-of view-answer retape-answer
+told : (number-of (done-answer (views-in-order ten-before-eleven K-file (1 ∷ 1 ∷ []) K-tapes 4 [] [] .0)) ≡ 10)
+    × (number-of (done-answer (retapes-in-order ten-before-eleven K-file (1 ∷ 1 ∷ []) K-tapes (1 ∷ 1 ∷ []) 4 [] [] .0)) ≡ 10)
+    × (number-of (done-answer (retapes-in-order twelve-before-ten K-file (1 ∷ 1 ∷ []) K-tapes [] 3 [] [] .0)) ≡ 12)
+unfolding is dealing ands owned first le16 le32 size owner-at kind-at first-at second-at output-at site-of gate-of tested row-owner good-gate row-gate row-output refusal-table row fault verdict given-of concerns those-of stands-in settle number-of done-answer
 told = (refl, refl, refl)
 
 abbrev number : After → ℕ

@@ -15,18 +15,15 @@ use Rattle.scope.specs.Answer.{Answer, good, abort, refused, After}
 use Rattle.scope.specs.Checks.{verdict}
 use Rattle.scope.specs.Refusal.{those-of}
 use Rattle.scope.specs.Calls.{Call, View, Retape, given-of, concerns, settle, does}
-use Rattle.retape.specs.declared.Retaped.{Retaped}
-use Rattle.retape.specs.declared.Retaped.the-variants.{Good, Refused}
-use Rattle.retape.specs.Answers.{retape-after}
-use Rattle.view.specs.declared.Viewed.{Viewed}
-use Rattle.view.specs.declared.Viewed.the-variants.{Good as ViewGood, Refused as ViewRefused}
-use Rattle.view.specs.Answers.{view-after}
+use Rattle.checks.specs.declared.Done.{Done}
+use Rattle.checks.specs.declared.Done.the-variants.{Good, Refused}
+use Rattle.checks.specs.Answers.{done-after}
 
 abbrev pub TapeEngine : Type 0
-TapeEngine = (file inputs tapes second : List ℕ) → ℕ → (fresh room : List ℕ) → Retaped × List ℕ × List ℕ
+TapeEngine = (file inputs tapes second : List ℕ) → ℕ → (fresh room : List ℕ) → Done × List ℕ × List ℕ
 
-abbrev pub TapeMeets : (file inputs tapes second : List ℕ) → ℕ → (fresh0 room0 : List ℕ) → Retaped → (fresh room : List ℕ) → Type 0
-TapeMeets file inputs tapes second site fresh0 room0 r fresh room = retape-after r fresh room ≡ does (Retape file inputs tapes second site fresh0 room0)
+abbrev pub TapeMeets : (file inputs tapes second : List ℕ) → ℕ → (fresh0 room0 : List ℕ) → Done → (fresh room : List ℕ) → Type 0
+TapeMeets file inputs tapes second site fresh0 room0 r fresh room = done-after r (fresh ∷ room ∷ []) ≡ does (Retape file inputs tapes second site fresh0 room0)
 
 abbrev pub TapeMeetsOn : TapeEngine → (file inputs tapes second : List ℕ) → ℕ → (fresh room : List ℕ) → Type 0
 TapeMeetsOn engine file inputs tapes second site fresh room =
@@ -43,10 +40,10 @@ refuses-freely n p file inputs tapes second site fresh room = (Refused n p, fres
 
 -- a view as the promise of `view_of` (crates/view/src/lib.rt) sees it
 abbrev pub ViewEngine : Type 0
-ViewEngine = (file inputs tapes : List ℕ) → ℕ → (view store : List ℕ) → Viewed × List ℕ × List ℕ
+ViewEngine = (file inputs tapes : List ℕ) → ℕ → (view store : List ℕ) → Done × List ℕ × List ℕ
 
-abbrev pub ViewMeets : (file inputs tapes : List ℕ) → ℕ → (view0 store0 : List ℕ) → Viewed → (view store : List ℕ) → Type 0
-ViewMeets file inputs tapes site view0 store0 r view store = view-after r view store ≡ does (View file inputs tapes site view0 store0)
+abbrev pub ViewMeets : (file inputs tapes : List ℕ) → ℕ → (view0 store0 : List ℕ) → Done → (view store : List ℕ) → Type 0
+ViewMeets file inputs tapes site view0 store0 r view store = done-after r (view ∷ store ∷ []) ≡ does (View file inputs tapes site view0 store0)
 
 abbrev pub ViewMeetsOn : ViewEngine → (file inputs tapes : List ℕ) → ℕ → (view store : List ℕ) → Type 0
 ViewMeetsOn engine file inputs tapes site view store =
@@ -66,22 +63,17 @@ abbrev pub twelve-before-ten : List ℕ
 twelve-before-ten = 14 ∷ 1 ∷ 2 ∷ 3 ∷ 4 ∷ 5 ∷ 6 ∷ 7 ∷ 8 ∷ 9 ∷ 11 ∷ 12 ∷ 10 ∷ 13 ∷ []
 
 -- neither call aborts
-abbrev pub as-viewed : Answer → Viewed
-as-viewed (good vs) = ViewGood
-as-viewed (abort o m) = ViewGood
-as-viewed (refused n p) = ViewRefused n p
-
-abbrev pub as-retaped : Answer → Retaped
-as-retaped (good vs) = Good
-as-retaped (abort o m) = Good
-as-retaped (refused n p) = Refused n p
+abbrev pub as-done : Answer → Done
+as-done (good vs) = Good
+as-done (abort o m) = Good
+as-done (refused n p) = Refused n p
 
 abbrev pub views-in-order : List ℕ → ViewEngine
 views-in-order ns file inputs tapes site view store =
     let z = in-order ns (View file inputs tapes site view store) in
-    (as-viewed (z .answer), getD (z .lent) 0 [], getD (z .lent) 1 [])
+    (as-done (z .answer), getD (z .lent) 0 [], getD (z .lent) 1 [])
 
 abbrev pub retapes-in-order : List ℕ → TapeEngine
 retapes-in-order ns file inputs tapes second site fresh room =
     let z = in-order ns (Retape file inputs tapes second site fresh room) in
-    (as-retaped (z .answer), getD (z .lent) 0 [], getD (z .lent) 1 [])
+    (as-done (z .answer), getD (z .lent) 0 [], getD (z .lent) 1 [])

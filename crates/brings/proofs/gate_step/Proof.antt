@@ -1,9 +1,7 @@
 use borrow.Author.Needs.{needs}
 use native.Mathlib.Omega.{arith}
-use mathlib.Core.Path.{sym}
 use Rattle.circuit.proofs.ReaderLaws.{gate-none}
 use Rattle.engine.proofs.EngineLaws.{gate-is, gate-lower}
-use Rattle.brings.proofs.StepLaws.{kind-room, kind-seen}
 use Rattle.brings.proofs.gate_step.Statement.{statement}
 use Rattle.brings.proofs.gate_step.Tie as tie
 
@@ -15,11 +13,12 @@ kind-step-requires c κs = let p = c .before .before .before .before .before .be
     let o = p .0 .0 .opened in let f = o .few-inputs in let g = o .few-gates in
     let e = c .before .before .before .before .before .gate-with .ensures in let q = c .before .before .before .r .given .1 in
     let is = gate-is _ _ _ _ _ _ _ o e q (p .0 .1) in
-    ((p .1 .0, omega arith), ((gate-lower _ _ _ _ _ _ _ (p .0 .0) e q (p .0 .1), omega (arith, p .0 .1)), kind-room _ _ (sym is) _ _ _ (p .1 .1)))
+    ((p .1 .0, omega arith), ((gate-lower _ _ _ _ _ _ _ (p .0 .0) e q (p .0 .1), omega (arith, p .0 .1)), rw (← is) at (p .1 .1)))
 
 returns-2 : tie.Need-returns-2
-returns-2 c = let p = c .before .before .before .before .before .before .before .before .before .before .before .before .before .before .before .before .before .pre in
-    kind-seen _ _ (gate-is _ _ _ _ _ _ _ (p .0 .0 .opened) (c .before .before .before .before .before .before .before .before .before .before .gate-with .ensures) (c .before .before .before .before .before .before .before .before .r .given .1) (p .0 .1)) _ _ _ _ _ _ (c .before .before .before .before .kind-step .ensures)
+returns-2 c =
+    let p = c .before .before .before .before .before .before .before .before .before .before .before .before .before .before .before .before .before .pre in
+    rw (← gate-is _ _ _ _ _ _ _ (p .0 .0 .opened) (c .before .before .before .before .before .before .before .before .before .before .gate-with .ensures) (c .before .before .before .before .before .before .before .before .r .given .1) (p .0 .1)) (c .before .before .before .before .kind-step .ensures)
 
 pub gate-step-spec : {M : Type 1} → statement M
 gate-step-spec =

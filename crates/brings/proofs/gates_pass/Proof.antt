@@ -4,9 +4,10 @@ use Prim.Native.Nat.{_-_, _+_, _≤_}
 use mathlib.Core.Path.{_≡_, refl, _∙_}
 use Rattle.scope.specs.File.{site-of}
 use Rattle.engine.specs.Mirror.{st}
-use Rattle.engine.proofs.EngineLaws.{at-end}
 use Rattle.seen.specs.Mirror.{gates-seen}
-use Rattle.brings.proofs.GatesLaws.{gates-none, gates-turn, gates-room}
+use Rattle.circuit.specs.Loop.{up-to}
+use Rattle.circuit.proofs.LoopLaws.{none-yet, turn, at-end}
+use Rattle.brings.proofs.GatesLaws.{gates-room}
 use Rattle.brings.proofs.gates_pass.Statement.{statement}
 use Rattle.brings.proofs.gates_pass.Tie as tie
 
@@ -19,7 +20,7 @@ abbrev μ-loop : tie.MeasureT-loop
 μ-loop file c tapes store₀ got₀ site g q₀ k₀ store got q k = g - k
 
 loop-holds : tie.Need-loop-holds Inv-loop μ-loop
-loop-holds c = (search needs, gates-none _ _ _ _ _ _, refl, refl)
+loop-holds c = (search needs, none-yet _ _, refl, refl)
 
 gate-step-requires : tie.Need-gate-step-requires Inv-loop μ-loop
 gate-step-requires c κs = let p = c .before .before .before .before .before .before .before .before .pre in let l = c .before .before .before .loop in let t = c .before .before .loop-test .taken in
@@ -27,10 +28,10 @@ gate-step-requires c κs = let p = c .before .before .before .before .before .be
 
 loop-again : tie.Need-loop-again Inv-loop μ-loop
 loop-again c = let l = c .before .before .before .before .before .before .before .before .loop in let r = c .before .before .before .before .gate-step in
-    (search needs, gates-turn _ _ _ _ _ _ _ _ _ (l .inv .1) (r .ensures), r .kept .1 .1 .1 .0 ∙ l .inv .2, r .kept .1 .1 .1 .1 .0 ∙ l .inv .3)
+    (search needs, turn _ _ _ _ _ (l .inv .1) (r .ensures), r .kept .1 .1 .1 .0 ∙ l .inv .2, r .kept .1 .1 .1 .1 .0 ∙ l .inv .3)
 
 returns : tie.Need-returns Inv-loop μ-loop
-returns c = let l = c .before .loop in at-end (gates-seen _ _ _ _ _ _) _ _ _ (l .inv .1) (l .inv .0) (c .loop-test .left)
+returns c = let l = c .before .loop in at-end (up-to _ _) _ _ _ (l .inv .1) (l .inv .0) (c .loop-test .left)
 
 pub gates-pass-spec : {M : Type 1} → statement M
 gates-pass-spec =

@@ -2,8 +2,10 @@ use borrow.Author.Needs.{needs}
 use lib.ListN.{length}
 use Prim.Native.Nat.{_-_, _+_, _≤_}
 use mathlib.Core.Path.{_≡_, refl, _∙_}
+use Rattle.circuit.specs.Loop.{up-to}
+use Rattle.circuit.proofs.LoopLaws.{none-yet, turn, at-end}
 use Rattle.engine.specs.Mirror.{st, gates-on}
-use Rattle.engine.proofs.EngineLaws.{gates-none, gates-turn, room-at, at-end}
+use Rattle.engine.proofs.EngineLaws.{room-at}
 use Rattle.engine.proofs.gates_pass.Statement.{statement}
 use Rattle.engine.proofs.gates_pass.Tie as tie
 
@@ -15,7 +17,7 @@ abbrev μ-loop : tie.MeasureT-loop
 μ-loop file c tapes line store₀ room₀ g q₀ k₀ store room q k = g - k
 
 loop-holds : tie.Need-loop-holds Inv-loop μ-loop
-loop-holds c = (search needs, gates-none _ _ _ _ _ _, refl, refl)
+loop-holds c = (search needs, none-yet _ _, refl, refl)
 
 gate-step-requires : tie.Need-gate-step-requires Inv-loop μ-loop
 gate-step-requires c κs = let p = c .before .before .before .before .before .before .before .before .before .pre in let l = c .before .before .before .loop in let t = c .before .before .loop-test .taken in
@@ -23,10 +25,10 @@ gate-step-requires c κs = let p = c .before .before .before .before .before .be
 
 loop-again : tie.Need-loop-again Inv-loop μ-loop
 loop-again c = let l = c .before .before .before .before .before .before .before .before .loop in let r = c .before .before .before .before .gate-step in
-    (search needs, gates-turn _ _ _ _ _ _ _ _ _ (l .inv .1) (r .ensures), r .kept .1 .1 .1 .1 .0 ∙ l .inv .2, r .kept .1 .1 .1 .1 .1 .0 ∙ l .inv .3)
+    (search needs, turn _ _ _ _ _ (l .inv .1) (r .ensures), r .kept .1 .1 .1 .1 .0 ∙ l .inv .2, r .kept .1 .1 .1 .1 .1 .0 ∙ l .inv .3)
 
 returns : tie.Need-returns Inv-loop μ-loop
-returns c = let l = c .before .loop in at-end (gates-on _ _ _ _ _ _) _ _ _ (l .inv .1) (l .inv .0) (c .loop-test .left)
+returns c = let l = c .before .loop in at-end (up-to _ _) _ _ _ (l .inv .1) (l .inv .0) (c .loop-test .left)
 
 pub gates-pass-spec : {M : Type 1} → statement M
 gates-pass-spec =

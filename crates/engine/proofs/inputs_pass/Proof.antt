@@ -3,8 +3,10 @@ use native.Mathlib.Omega.{arith}
 use lib.ListN.{length}
 use Prim.Native.Nat.{_-_, _+_, _≤_}
 use mathlib.Core.Path.{_≡_, refl, _∙_}
+use Rattle.circuit.specs.Loop.{up-to}
+use Rattle.circuit.proofs.LoopLaws.{none-yet, turn, at-end}
 use Rattle.engine.specs.Mirror.{st, inputs-on}
-use Rattle.engine.proofs.EngineLaws.{inputs-none, inputs-turn, in-room-at, at-end}
+use Rattle.engine.proofs.EngineLaws.{in-room-at}
 use Rattle.engine.proofs.inputs_pass.Statement.{statement}
 use Rattle.engine.proofs.inputs_pass.Tie as tie
 
@@ -16,18 +18,18 @@ abbrev μ-loop : tie.MeasureT-loop
 μ-loop file c xs tapes line store₀ room₀ i q₀ k₀ store room q k = i - k
 
 loop-holds : tie.Need-loop-holds Inv-loop μ-loop
-loop-holds c = (search needs, inputs-none _ _ _ _ _ _, refl, refl)
+loop-holds c = (search needs, none-yet _ _, refl, refl)
 
 input-at-requires : tie.Need-input-at-requires Inv-loop μ-loop
-input-at-requires c κs = let p = c .before .before .before .before .before .before .before .before .before .before .pre in let l = c .before .before .before .loop in let t = c .before .before .loop-test .taken in
-    ((p .0 .0, t, omega (arith, t, p .0 .1)), (l .inv .2 ∙ p .1 .0, in-room-at _ _ _ _ _ _ (st _ _ _) _ _ _ _ t (l .inv .3) (p .1 .1) (l .inv .1)))
+input-at-requires c κs = let x = c .before .before .before .before .before .before .before .before .before .before .args .xs .now in let p = c .before .before .before .before .before .before .before .before .before .before .pre in let l = c .before .before .before .loop in let t = c .before .before .loop-test .taken in
+    ((p .0 .0, t, omega (arith, t, p .0 .1)), (l .inv .2 ∙ p .1 .0, in-room-at _ x _ _ _ _ (st _ _ _) _ _ _ _ t (l .inv .3) (p .1 .1) (l .inv .1)))
 
 loop-again : tie.Need-loop-again Inv-loop μ-loop
 loop-again c = let l = c .before .before .before .before .before .before .before .before .loop in let r = c .before .before .before .before .input-at in
-    (search needs, inputs-turn _ _ _ _ _ _ _ _ _ (l .inv .1) (r .ensures), r .kept .1 .1 .1 .1 .1 .0 ∙ l .inv .2, r .kept .1 .1 .1 .1 .1 .1 .0 ∙ l .inv .3)
+    (search needs, turn _ _ _ _ _ (l .inv .1) (r .ensures), r .kept .1 .1 .1 .1 .1 .0 ∙ l .inv .2, r .kept .1 .1 .1 .1 .1 .1 .0 ∙ l .inv .3)
 
 returns : tie.Need-returns Inv-loop μ-loop
-returns c = let l = c .before .loop in at-end (inputs-on _ _ _ _ _ _) _ _ _ (l .inv .1) (l .inv .0) (c .loop-test .left)
+returns c = let l = c .before .loop in at-end (up-to _ _) _ _ _ (l .inv .1) (l .inv .0) (c .loop-test .left)
 
 pub inputs-pass-spec : {M : Type 1} → statement M
 inputs-pass-spec =

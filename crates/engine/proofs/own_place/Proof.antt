@@ -1,4 +1,3 @@
-use borrow.Author.Needs.{needs}
 use borrow.Author.Tests.{eq-eqb, ne-eqb}
 use Rattle.engine.specs.Mirror.{own-place}
 use Rattle.engine.proofs.own_place.Statement.{statement}

@@ -3,7 +3,7 @@ use mathlib.Core.Path.{sym}
 use Prim.Native.Nat.{ℕ, _+_, _*_}
 use lib.ListN.{take}
 use lib.Seq.{length-take-le}
-use Rattle.listing.proofs.ListingLaws.{line-fits, store-fits, ready, front-clean, clean-opens}
+use Rattle.listing.proofs.CleanLaws.{line-fits, store-fits, ready, front-clean, clean-opens}
 use Rattle.listing.proofs.clean_run.Statement.{statement}
 use Rattle.listing.proofs.clean_run.Tie as tie
 

@@ -1,7 +1,7 @@
 use borrow.Author.Needs.{needs}
 use mathlib.Core.Path.{sym}
 use lib.Seq.{length-take-le}
-use Rattle.listing.proofs.ListingLaws.{outputs-fit}
+use Rattle.listing.proofs.CleanLaws.{outputs-fit}
 use Rattle.listing.proofs.good.Statement.{statement}
 use Rattle.listing.proofs.good.Tie as tie
 

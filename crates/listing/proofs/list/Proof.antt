@@ -1,7 +1,7 @@
 use borrow.Author.Needs.{needs}
 use mathlib.Core.Path.{_∙_}
 use Rattle.checks.proofs.FrontLaws.{checked-from}
-use Rattle.listing.proofs.ListingLaws.{circuit-told, slices-told, good-told, fit}
+use Rattle.listing.proofs.PartLaws.{circuit-told, slices-told, good-told, fit}
 use Rattle.listing.proofs.list.Statement.{statement}
 use Rattle.listing.proofs.list.Tie as tie
 

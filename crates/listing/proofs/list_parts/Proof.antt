@@ -4,7 +4,7 @@ use mathlib.Core.List.{List}
 use Prim.Native.Nat.{ℕ, _-_}
 use lib.ListN.{take, drop}
 use Rattle.listing.specs.Mirror.{says}
-use Rattle.listing.proofs.ListingLaws.{to-the-end}
+use Rattle.listing.proofs.JobLaws.{to-the-end}
 use Rattle.listing.proofs.list_parts.Statement.{statement}
 use Rattle.listing.proofs.list_parts.Tie as tie
 

@@ -1,6 +1,6 @@
 use borrow.Author.Needs.{needs}
 use mathlib.Core.Path.{_∙_}
-use Rattle.listing.proofs.ListingLaws.{job-refused, at-8, at-12, parts-fit, parts-told}
+use Rattle.listing.proofs.JobLaws.{job-refused, at-8, at-12, parts-fit, parts-told}
 use Rattle.listing.proofs.listing.Statement.{statement}
 use Rattle.listing.proofs.listing.Tie as tie
 

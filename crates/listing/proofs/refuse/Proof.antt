@@ -1,6 +1,6 @@
 use borrow.Author.Needs.{needs}
 use mathlib.Core.Path.{refl}
-use Rattle.listing.proofs.ListingLaws.{told-refused}
+use Rattle.listing.proofs.ToldLaws.{told-refused}
 use Rattle.listing.proofs.refuse.Statement.{statement}
 use Rattle.listing.proofs.refuse.Tie as tie
 

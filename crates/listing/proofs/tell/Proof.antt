@@ -1,6 +1,6 @@
 use borrow.Author.Needs.{needs}
 use mathlib.Core.Path.{_∙_}
-use Rattle.listing.proofs.ListingLaws.{digit, total-small, told-good}
+use Rattle.listing.proofs.ToldLaws.{digit, total-small, told-good}
 use Rattle.listing.proofs.tell.Statement.{statement}
 use Rattle.listing.proofs.tell.Tie as tie
 

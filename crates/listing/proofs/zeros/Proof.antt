@@ -1,7 +1,6 @@
-use borrow.Author.Needs.{needs}
 use Prim.Native.Nat.{ℕ}
 use lib.ListN.{length-replicate}
-use Rattle.listing.proofs.ListingLaws.{zeros-clean}
+use Rattle.listing.proofs.CleanLaws.{zeros-clean}
 use Rattle.listing.proofs.zeros.Statement.{statement}
 use Rattle.listing.proofs.zeros.Tie as tie
 

@@ -3,7 +3,8 @@ use mathlib.Core.Path.{_≡_, refl, _∙_}
 use Prim.Native.Nat.{_-_, _+_, _≤_}
 use lib.ListN.{length}
 use Rattle.engine.specs.Mirror.{hands-on}
-use Rattle.openings.proofs.OpeningLaws.{hands-none, hands-turn, hands-all}
+use Rattle.circuit.specs.Loop.{up-to}
+use Rattle.circuit.proofs.LoopLaws.{none-yet, turn, at-end}
 use Rattle.openings.proofs.hand_over.Statement.{statement}
 use Rattle.openings.proofs.hand_over.Tie as tie
 
@@ -15,7 +16,7 @@ abbrev μ-loop : tie.MeasureT-loop
 μ-loop file c store tr outs₀ at n k₀ outs k = n - k
 
 loop-holds : tie.Need-loop-holds Inv-loop μ-loop
-loop-holds c = (search needs, hands-none _ _ _ _ _ _, refl)
+loop-holds c = (search needs, none-yet _ _, refl)
 
 hand-step-requires : tie.Need-hand-step-requires Inv-loop μ-loop
 hand-step-requires c κs = let p = c .before .before .before .before .before .before .before .pre in let l = c .before .before .loop in
@@ -23,10 +24,10 @@ hand-step-requires c κs = let p = c .before .before .before .before .before .be
 
 loop-again : tie.Need-loop-again Inv-loop μ-loop
 loop-again c = let l = c .before .before .before .before .before .loop in let r = c .before .before .hand-step in
-    (search needs, hands-turn _ _ _ _ _ _ _ _ _ (l .inv .1) (r .ensures), r .kept .1 .1 .1 .1 .0 ∙ l .inv .2)
+    (search needs, turn _ _ _ _ _ (l .inv .1) (r .ensures), r .kept .1 .1 .1 .1 .0 ∙ l .inv .2)
 
 returns : tie.Need-returns Inv-loop μ-loop
-returns c = let l = c .before .loop in hands-all _ _ _ _ _ _ _ _ _ (l .inv .1) (l .inv .0) (c .loop-test .left)
+returns c = let l = c .before .loop in at-end (up-to _ _) _ _ _ (l .inv .1) (l .inv .0) (c .loop-test .left)
 
 pub hand-over-spec : {M : Type 1} → statement M
 hand-over-spec =

@@ -1,38 +1,17 @@
 use borrow.Author.Needs.{needs}
-use native.Mathlib.Omega.{arith}
-use Rattle.circuit.proofs.ReaderLaws.{output-none}
-use Rattle.openings.proofs.OpeningLaws.{wire-is, wire-below, hand-law}
+use Rattle.engine.specs.Mirror.{hand-on}
 use Rattle.openings.proofs.hand_step.Statement.{statement}
 use Rattle.openings.proofs.hand_step.Tie as tie
 
 returns : tie.Need-returns
-returns c = absurd (output-none _ _ _ _ _ _ (c .before .before .output-with .ensures) (c .enum-told .given .1) (c .before .before .before .before .before .before .before .before .pre .0 .1))
-
-held-at-requires : tie.Need-held-at-requires
-held-at-requires c κs = let p = c .before .before .before .before .before .before .before .before .before .pre in let o = p .0 .0 .opened in let f = o .few-inputs in let g = o .few-gates in
-    ((p .1 .0, omega arith), wire-below _ _ _ _ _ (p .0 .0) (c .before .before .before .output-with .ensures) (c .before .r .given .1) (p .0 .1))
-
-mul-put3 : tie.Need-mul-put3
-mul-put3 c = let f = c .before .before .before .before .before .before .before .before .before .before .before .before .before .before .before .pre .0 .0 .opened .few-outputs in let h = c .before .before .before .before .before .before .before .before .before .before .before .before .before .before .before .pre .0 .1 in omega arith
-
-put3-requires : tie.Need-put3-requires
-put3-requires c κs = let e = c .before .before .before .before .before .before .before .before .before .before .before .before .before .before .before .pre .1 .1 .1 in let h = c .before .before .before .before .before .before .before .before .before .before .before .before .before .before .before .pre .0 .1 in (omega arith, omega arith, omega arith)
-
-returns-2 : tie.Need-returns-2
-returns-2 c = let p = c .before .before .before .before .before .before .before .before .before .before .before .before .before .before .before .before .before .before .pre in
-    hand-law _ _ _ _ _ _ _ _ _ _ _ (wire-is _ _ _ _ _ (p .0 .0 .opened) (c .before .before .before .before .before .before .before .before .before .before .before .before .output-with .ensures) (c .before .before .before .before .before .before .before .before .before .before .r .given .1) (p .0 .1)) (c .before .before .before .before .before .before .before .before .held-at .ensures) (c .before .before .before .before .opened .ensures) (c .before .before .put3 .ensures)
+unfolding hand-on
+returns c = cc
 
 pub hand-step-spec : {M : Type 1} → statement M
 hand-step-spec =
     tie.close
     (tie.spec
-    (λ c. search needs)
     (λ c κs. search needs)
-    (λ c. search needs)
-    (λ c. search needs)
-    returns
-    (λ c. search needs)
-    held-at-requires
     (λ c. search needs)
     (λ c. search needs)
     (λ c. search needs)
@@ -41,7 +20,7 @@ hand-step-spec =
     (λ c. search needs)
     (λ c. search needs)
     (λ c κs. search needs)
-    mul-put3
-    put3-requires
     (λ c. search needs)
-    returns-2)
+    (λ c κs. search needs)
+    (λ c. search needs)
+    returns)

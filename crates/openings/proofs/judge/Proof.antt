@@ -4,7 +4,8 @@ use Prim.Native.Nat.{_-_, _+_, _≤_}
 use lib.ListN.{length}
 use Rattle.sharing.proofs.FirstLaws.{Clear, clear-none, ended}
 use Rattle.engine.specs.Mirror.{opens-on}
-use Rattle.openings.proofs.OpeningLaws.{objected, opens-none, opens-turn, stopped-at, stopped-by, stopped-with, went-on, ended-by, ended-with}
+use Rattle.circuit.proofs.LoopLaws.{none-yet, turn}
+use Rattle.openings.proofs.OpeningLaws.{objected, stopped-at, stopped-by, stopped-with, went-on, ended-by, ended-with}
 use Rattle.openings.proofs.judge.Statement.{statement}
 use Rattle.openings.proofs.judge.Tie as tie
 
@@ -16,7 +17,7 @@ abbrev μ-loop : tie.MeasureT-loop
 μ-loop file c line store room₀ at n k₀ room k = n - k
 
 loop-holds : tie.Need-loop-holds Inv-loop μ-loop
-loop-holds c = (search needs, opens-none _ _ _ _ _ _, clear-none _, refl)
+loop-holds c = (search needs, none-yet _ _, clear-none _, refl)
 
 open-step-requires : tie.Need-open-step-requires Inv-loop μ-loop
 open-step-requires c κs = let p = c .before .before .before .before .before .before .before .pre in let l = c .before .before .loop in
@@ -28,7 +29,7 @@ returns c = let a = c .before .before .before .before .before .before .before .b
 
 loop-again : tie.Need-loop-again Inv-loop μ-loop
 loop-again c = let a = c .before .before .before .before .before .before .before .before .before .before .before .args in let l = c .before .before .before .before .before .before .loop in let r = c .before .before .before .open-step in
-    (search needs, opens-turn _ _ _ _ _ _ _ _ _ (l .inv .1) (r .ensures .1), went-on (a .file .now) (a .line .now) (a .store .now) (a .c .inputs + a .c .gates) (a .at) _ _ (l .inv .2) (r .ensures .0) (c .if1 .left), r .kept .1 .1 .1 .1 .0 ∙ l .inv .3)
+    (search needs, turn _ _ _ _ _ (l .inv .1) (r .ensures .1), went-on (a .file .now) (a .line .now) (a .store .now) (a .c .inputs + a .c .gates) (a .at) _ _ (l .inv .2) (r .ensures .0) (c .if1 .left), r .kept .1 .1 .1 .1 .0 ∙ l .inv .3)
 
 returns-2 : tie.Need-returns-2 Inv-loop μ-loop
 returns-2 c = let a = c .before .before .before .before .before .before .args in let l = c .before .loop in let t = c .loop-test .left in

@@ -1,9 +1,7 @@
 use borrow.Author.Needs.{needs}
-use mathlib.Core.Path.{sym}
 use native.Mathlib.Omega.{arith}
 use Rattle.circuit.proofs.ReaderLaws.{gate-none}
 use Rattle.engine.proofs.EngineLaws.{gate-is, gate-lower}
-use Rattle.pairs.proofs.PairLaws.{gate-fits, gate-back}
 use Rattle.pairs.proofs.gate_step.Statement.{statement}
 use Rattle.pairs.proofs.gate_step.Tie as tie
 
@@ -13,13 +11,13 @@ returns c = absurd (gate-none _ _ _ _ _ _ (c .before .before .gate-with .ensures
 kind-step-requires : tie.Need-kind-step-requires
 kind-step-requires c κs =
     let p = c .before .before .before .before .before .before .before .before .before .before .before .before .before .before .pre in let o = p .0 .0 .opened in let f = o .few-inputs in let g = o .few-gates in let k = p .0 .1 in
-    let e = c .before .before .before .before .before .gate-with .ensures in let q = c .before .before .before .r .given .1 in
-    ((p .1 .0, omega arith), ((gate-lower _ _ _ _ _ _ _ (p .0 .0) e q k, omega arith), (gate-fits _ _ (sym (gate-is _ _ _ _ _ _ _ o e q k)) _ _ _ _ (p .1 .1 .0), p .1 .1 .1)))
+    let e = c .before .before .before .before .before .gate-with .ensures in let q = c .before .before .before .r .given .1 in let is = gate-is _ _ _ _ _ _ _ o e q k in
+    ((p .1 .0, omega arith), ((gate-lower _ _ _ _ _ _ _ (p .0 .0) e q k, omega arith), (rw (← is) at (p .1 .1 .0), p .1 .1 .1)))
 
 returns-2 : tie.Need-returns-2
 returns-2 c =
     let p = c .before .before .before .before .before .before .before .before .before .before .before .before .before .before .before .before .before .before .before .pre in
-    gate-back _ _ (sym (gate-is _ _ _ _ _ _ _ (p .0 .0 .opened) (c .before .before .before .before .before .before .before .before .before .before .gate-with .ensures) (c .before .before .before .before .before .before .before .before .r .given .1) (p .0 .1))) _ _ _ _ _ _ _ _ (c .before .before .before .before .kind-step .ensures)
+    rw (← gate-is _ _ _ _ _ _ _ (p .0 .0 .opened) (c .before .before .before .before .before .before .before .before .before .before .gate-with .ensures) (c .before .before .before .before .before .before .before .before .r .given .1) (p .0 .1)) (c .before .before .before .before .kind-step .ensures)
 
 pub gate-step-spec : {M : Type 1} → statement M
 gate-step-spec =

@@ -1,10 +1,10 @@
 use borrow.Author.Needs.{needs}
-use mathlib.Core.Path.{_≡_, refl, ap, _∙_}
+use mathlib.Core.Path.{_≡_, refl, _∙_}
 use Prim.Native.Nat.{_-_, _≤_}
-use native.Mathlib.Nat.{le-antisymm}
 use lib.ListN.{length}
+use Rattle.circuit.specs.Loop.{up-to}
+use Rattle.circuit.proofs.LoopLaws.{none-yet, turn, at-end}
 use Rattle.plain.specs.Mirror.{gates-on}
-use Rattle.plain.proofs.ValueLaws.{gates-none, gates-turn}
 use Rattle.plain.proofs.gates_pass.Statement.{statement}
 use Rattle.plain.proofs.gates_pass.Tie as tie
 
@@ -15,7 +15,7 @@ abbrev μ-loop : tie.MeasureT-loop
 μ-loop file c values₀ n k₀ values k = n - k
 
 loop-holds : tie.Need-loop-holds Inv-loop μ-loop
-loop-holds c = (search needs, gates-none _ _ _, refl)
+loop-holds c = (search needs, none-yet _ _, refl)
 
 gate-step-requires : tie.Need-gate-step-requires Inv-loop μ-loop
 gate-step-requires c κs =
@@ -25,10 +25,10 @@ gate-step-requires c κs =
 loop-again : tie.Need-loop-again Inv-loop μ-loop
 loop-again c =
     let l = c .before .before .before .before .before .loop in let r = c .before .before .gate-step in
-    (search needs, gates-turn _ _ _ _ _ _ (l .inv .1) (r .ensures), r .kept .1 .1 .0 ∙ l .inv .2)
+    (search needs, turn _ _ _ _ _ (l .inv .1) (r .ensures), r .kept .1 .1 .0 ∙ l .inv .2)
 
 returns : tie.Need-returns Inv-loop μ-loop
-returns c = let l = c .before .loop .inv in l .1 ∙ ap (gates-on _ _ _) (le-antisymm (l .0) (c .loop-test .left))
+returns c = let l = c .before .loop .inv in at-end (up-to _ _) _ _ _ (l .1) (l .0) (c .loop-test .left)
 
 pub gates-pass-spec : {M : Type 1} → statement M
 gates-pass-spec =

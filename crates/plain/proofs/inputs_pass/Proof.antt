@@ -1,11 +1,11 @@
 use borrow.Author.Needs.{needs}
-use mathlib.Core.Path.{_≡_, refl, ap, _∙_}
+use mathlib.Core.Path.{_≡_, refl, _∙_}
 use Prim.Native.Nat.{_-_, _≤_}
 use native.Mathlib.Omega.{arith}
-use native.Mathlib.Nat.{le-antisymm}
 use lib.ListN.{length}
+use Rattle.circuit.specs.Loop.{up-to}
+use Rattle.circuit.proofs.LoopLaws.{none-yet, turn, at-end}
 use Rattle.plain.specs.Mirror.{inputs-on}
-use Rattle.plain.proofs.ValueLaws.{inputs-none, inputs-turn}
 use Rattle.plain.proofs.inputs_pass.Statement.{statement}
 use Rattle.plain.proofs.inputs_pass.Tie as tie
 
@@ -16,7 +16,7 @@ abbrev μ-loop : tie.MeasureT-loop
 μ-loop xs values₀ n k₀ values k = n - k
 
 loop-holds : tie.Need-loop-holds Inv-loop μ-loop
-loop-holds c = (search needs, inputs-none _ _, refl)
+loop-holds c = (search needs, none-yet _ _, refl)
 
 input-step-requires : tie.Need-input-step-requires Inv-loop μ-loop
 input-step-requires c κs =
@@ -26,10 +26,10 @@ input-step-requires c κs =
 loop-again : tie.Need-loop-again Inv-loop μ-loop
 loop-again c =
     let l = c .before .before .before .before .before .loop in let r = c .before .before .input-step in
-    (search needs, inputs-turn _ _ _ _ _ (l .inv .1) (r .ensures), r .kept .1 .0 ∙ l .inv .2)
+    (search needs, turn _ _ _ _ _ (l .inv .1) (r .ensures), r .kept .1 .0 ∙ l .inv .2)
 
 returns : tie.Need-returns Inv-loop μ-loop
-returns c = let l = c .before .loop .inv in l .1 ∙ ap (inputs-on _ _) (le-antisymm (l .0) (c .loop-test .left))
+returns c = let l = c .before .loop .inv in at-end (up-to _ _) _ _ _ (l .1) (l .0) (c .loop-test .left)
 
 pub inputs-pass-spec : {M : Type 1} → statement M
 inputs-pass-spec =

@@ -1,13 +1,13 @@
 use borrow.Author.Needs.{needs}
-use mathlib.Core.Path.{_∙_}
 use native.Mathlib.Omega.{arith}
-use Rattle.checks.proofs.FrontLaws.{checked-from}
-use Rattle.retape.proofs.RetapeCall.{circuit-refused, slices-refused, ready, values-front, differs-refused, accepted-retape}
+use Rattle.given.proofs.GivenLaws.{found-no, found-yes}
+use Rattle.checks.proofs.FrontLaws.{checked-from, done-circuit, done-given, given-passed}
+use Rattle.retape.proofs.RetapeCall.{front, ready, values-front, differs-refused, accepted-retape}
 use Rattle.retape.proofs.retape.Statement.{statement}
 use Rattle.retape.proofs.retape.Tie as tie
 
 returns : tie.Need-returns
-returns c = circuit-refused _ _ _ _ _ _ _ _ (c .before .before .before .check-file .ensures .0) _ _ _ (c .before .enum-told .given .1) (c .refused .ensures)
+returns c = done-circuit _ _ _ _ _ (front _ _ _ _ _ _ _) _ (c .before .before .before .check-file .ensures .0) _ _ _ (c .before .enum-told .given .1) (c .refused .ensures)
 
 count-ands-requires : tie.Need-count-ands-requires
 count-ands-requires c κs = checked-from _ _ _ (c .before .h .given .1) (c .before .before .before .check-file .ensures .1) .opened
@@ -17,20 +17,21 @@ given-fault-requires c κs = (checked-from _ _ _ (c .before .before .h .given .1
 
 returns-2 : tie.Need-returns-2
 returns-2 c =
-    let a = c .before .before .before .before .before .before .before .before .before .before .before .before .before .before .args in let q = c .before .before .before .before .before .h .given .1 in let k = checked-from _ _ _ q (c .before .before .before .before .before .before .before .check-file .ensures .1) in let e = c .before .before .before .before .before .before .before .check-file .ensures .0 in
-    slices-refused (a .file .now) (a .inputs .now) (a .tapes .now) (a .second .now) (a .site) (a .fresh .now) (a .room .now) _ _ e q (k .opened) _ (c .before .before .given-fault .ensures) (c .if1 .taken)
+    done-given _ _ _ _ _ (front _ _ _ _ _ _ _) _ (c .before .before .before .before .before .before .before .check-file .ensures .0) _ (c .before .before .before .before .before .h .given .1) _ _
+    (found-no _ _ (c .before .before .given-fault .ensures) (c .if1 .taken))
 
 both-values-requires : tie.Need-both-values-requires
 both-values-requires c κs =
-    let a = c .before .before .before .before .before .before .before .before .before .before .before .before .before .before .before .args in let q = c .before .before .before .before .before .before .h .given .1 in let k = checked-from _ _ _ q (c .before .before .before .before .before .before .before .before .check-file .ensures .1) in let e = c .before .before .before .before .before .before .before .before .check-file .ensures .0 in
-    let r = ready (a .file .now) (a .inputs .now) (a .tapes .now) (a .second .now) (a .site) (a .fresh .now) (a .room .now) _ _ e q (k .opened) _ (c .before .before .before .given-fault .ensures) (c .before .if1 .left) in
+    let a = c .before .before .before .before .before .before .before .before .before .before .before .before .before .before .before .args in let q = c .before .before .before .before .before .before .h .given .1 in let e = c .before .before .before .before .before .before .before .before .check-file .ensures in let k = checked-from _ _ _ q (e .1) in
+    let r = ready (a .file .now) (a .inputs .now) (a .tapes .now) (a .second .now) (a .site) (a .fresh .now) (a .room .now) _ (k .opened) (found-yes _ _ (c .before .before .before .given-fault .ensures) (c .before .if1 .left)) in
     ((k, r .in-x .long, r .in-y .long), r .wr-long)
 
 differ-requires : tie.Need-differ-requires
 differ-requires c κs =
-    let a = c .before .before .before .before .before .before .before .before .before .before .before .before .before .before .before .before .before .before .before .args in let q = c .before .before .before .before .before .before .before .before .before .before .h .given .1 in let k = checked-from _ _ _ q (c .before .before .before .before .before .before .before .before .before .before .before .before .check-file .ensures .1) in let e = c .before .before .before .before .before .before .before .before .before .before .before .before .check-file .ensures .0 in
-    let r = ready (a .file .now) (a .inputs .now) (a .tapes .now) (a .second .now) (a .site) (a .fresh .now) (a .room .now) _ _ e q (k .opened) _ (c .before .before .before .before .before .before .before .given-fault .ensures) (c .before .before .before .before .before .if1 .left) in
-    ((k, r .in-x .long, r .in-y .long), values-front (a .file .now) (a .inputs .now) (a .tapes .now) (a .second .now) (a .site) (a .fresh .now) (a .room .now) _ _ e q (k .opened) _ (c .before .before .before .before .before .before .before .given-fault .ensures) (c .before .before .before .before .before .if1 .left) _ (c .before .before .before .both-values .ensures))
+    let a = c .before .before .before .before .before .before .before .before .before .before .before .before .before .before .before .before .before .before .before .args in let q = c .before .before .before .before .before .before .before .before .before .before .h .given .1 in let e = c .before .before .before .before .before .before .before .before .before .before .before .before .check-file .ensures in let k = checked-from _ _ _ q (e .1) in
+    let z = found-yes _ _ (c .before .before .before .before .before .before .before .given-fault .ensures) (c .before .before .before .before .before .if1 .left) in
+    let r = ready (a .file .now) (a .inputs .now) (a .tapes .now) (a .second .now) (a .site) (a .fresh .now) (a .room .now) _ (k .opened) z in
+    ((k, r .in-x .long, r .in-y .long), values-front (a .file .now) (a .inputs .now) (a .tapes .now) (a .second .now) (a .site) (a .fresh .now) (a .room .now) _ (k .opened) z _ (c .before .before .before .both-values .ensures))
 
 add-if2 : tie.Need-add-if2
 add-if2 c =
@@ -39,19 +40,23 @@ add-if2 c =
 
 returns-3 : tie.Need-returns-3
 returns-3 c =
-    let a = c .before .before .before .before .before .before .before .before .before .before .before .before .before .before .before .before .before .before .before .before .before .before .args in let q = c .before .before .before .before .before .before .before .before .before .before .before .before .before .h .given .1 in let k = checked-from _ _ _ q (c .before .before .before .before .before .before .before .before .before .before .before .before .before .before .before .check-file .ensures .1) in let e = c .before .before .before .before .before .before .before .before .before .before .before .before .before .before .before .check-file .ensures .0 in
-    differs-refused (a .file .now) (a .inputs .now) (a .tapes .now) (a .second .now) (a .site) (a .fresh .now) (a .room .now) _ _ e q (k .opened) _ (c .before .before .before .before .before .before .before .before .before .before .given-fault .ensures) (c .before .before .before .before .before .before .before .before .if1 .left) _ (c .before .before .differ .ensures) (c .if2 .taken) _ (c .before .before .before .before .before .before .both-values .ensures)
+    let q = c .before .before .before .before .before .before .before .before .before .before .before .before .before .h .given .1 in let e = c .before .before .before .before .before .before .before .before .before .before .before .before .before .before .before .check-file .ensures in let k = checked-from _ _ _ q (e .1) in
+    differs-refused _ _ _ _ _ _ _ _ (k .opened) (given-passed _ _ _ _ _ (front _ _ _ _ _ _ _) _ (e .0) _ q (found-yes _ _ (c .before .before .before .before .before .before .before .before .before .before .given-fault .ensures) (c .before .before .before .before .before .before .before .before .if1 .left)))
+    _ (c .before .before .differ .ensures) (c .if2 .taken) _ (c .before .before .before .before .before .before .both-values .ensures)
 
 renew-requires : tie.Need-renew-requires
 renew-requires c κs =
-    let a = c .before .before .before .before .before .before .before .before .before .before .before .before .before .before .before .before .before .before .before .before .before .before .before .before .args in let q = c .before .before .before .before .before .before .before .before .before .before .before .before .before .before .before .h .given .1 in let k = checked-from _ _ _ q (c .before .before .before .before .before .before .before .before .before .before .before .before .before .before .before .before .before .check-file .ensures .1) in let e = c .before .before .before .before .before .before .before .before .before .before .before .before .before .before .before .before .before .check-file .ensures .0 in
-    let r = ready (a .file .now) (a .inputs .now) (a .tapes .now) (a .second .now) (a .site) (a .fresh .now) (a .room .now) _ _ e q (k .opened) _ (c .before .before .before .before .before .before .before .before .before .before .before .before .given-fault .ensures) (c .before .before .before .before .before .before .before .before .before .before .if1 .left) in let v = values-front (a .file .now) (a .inputs .now) (a .tapes .now) (a .second .now) (a .site) (a .fresh .now) (a .room .now) _ _ e q (k .opened) _ (c .before .before .before .before .before .before .before .before .before .before .before .before .given-fault .ensures) (c .before .before .before .before .before .before .before .before .before .before .if1 .left) _ (c .before .before .before .before .before .before .before .before .both-values .ensures) in
+    let a = c .before .before .before .before .before .before .before .before .before .before .before .before .before .before .before .before .before .before .before .before .before .before .before .before .args in let q = c .before .before .before .before .before .before .before .before .before .before .before .before .before .before .before .h .given .1 in let e = c .before .before .before .before .before .before .before .before .before .before .before .before .before .before .before .before .before .check-file .ensures in let k = checked-from _ _ _ q (e .1) in
+    let z = found-yes _ _ (c .before .before .before .before .before .before .before .before .before .before .before .before .given-fault .ensures) (c .before .before .before .before .before .before .before .before .before .before .if1 .left) in
+    let r = ready (a .file .now) (a .inputs .now) (a .tapes .now) (a .second .now) (a .site) (a .fresh .now) (a .room .now) _ (k .opened) z in
+    let v = values-front (a .file .now) (a .inputs .now) (a .tapes .now) (a .second .now) (a .site) (a .fresh .now) (a .room .now) _ (k .opened) z _ (c .before .before .before .before .before .before .before .before .both-values .ensures) in
     ((k, r .in-x, r .in-y), (c .before .before .before .before .before .before .before .before .before .before .before .before .before .count-ands .ensures, ((r .t-long, r .nt-long, v .0), v .1)))
 
 returns-4 : tie.Need-returns-4
 returns-4 c =
-    let a = c .before .before .before .before .before .before .before .before .before .before .before .before .before .before .before .before .before .before .before .before .before .before .before .before .before .before .before .before .before .args in let q = c .before .before .before .before .before .before .before .before .before .before .before .before .before .before .before .before .before .before .before .before .h .given .1 in let k = checked-from _ _ _ q (c .before .before .before .before .before .before .before .before .before .before .before .before .before .before .before .before .before .before .before .before .before .before .check-file .ensures .1) in let e = c .before .before .before .before .before .before .before .before .before .before .before .before .before .before .before .before .before .before .before .before .before .before .check-file .ensures .0 in
-    accepted-retape (a .file .now) (a .inputs .now) (a .tapes .now) (a .second .now) (a .site) (a .fresh .now) (a .room .now) _ _ e q (k .opened) _ (c .before .before .before .before .before .before .before .before .before .before .before .before .before .before .before .before .before .given-fault .ensures) (c .before .before .before .before .before .before .before .before .before .before .before .before .before .before .before .if1 .left) _ (c .before .before .before .before .before .before .before .before .before .differ .ensures) (c .before .before .before .before .before .before .before .if2 .left) _ _ (c .before .before .before .before .renew .ensures .0) (c .before .before .before .before .renew .ensures .1)
+    let q = c .before .before .before .before .before .before .before .before .before .before .before .before .before .before .before .before .before .before .before .before .h .given .1 in let e = c .before .before .before .before .before .before .before .before .before .before .before .before .before .before .before .before .before .before .before .before .before .before .check-file .ensures in let k = checked-from _ _ _ q (e .1) in
+    accepted-retape _ _ _ _ _ _ _ _ (k .opened) (given-passed _ _ _ _ _ (front _ _ _ _ _ _ _) _ (e .0) _ q (found-yes _ _ (c .before .before .before .before .before .before .before .before .before .before .before .before .before .before .before .before .before .given-fault .ensures) (c .before .before .before .before .before .before .before .before .before .before .before .before .before .before .before .if1 .left)))
+    _ (c .before .before .before .before .before .before .before .before .before .differ .ensures) (c .before .before .before .before .before .before .before .if2 .left) _ _ (c .before .before .before .before .renew .ensures .0) (c .before .before .before .before .renew .ensures .1)
 
 pub retape-spec : {M : Type 1} → statement M
 retape-spec =

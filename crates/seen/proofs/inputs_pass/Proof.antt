@@ -7,8 +7,8 @@ use Rattle.sharing.specs.Tapes.{read}
 use Rattle.scope.specs.File.{circuit, site-of}
 use Rattle.scope.specs.Calls.{at-wire}
 use Rattle.engine.specs.Mirror.{st}
-use Rattle.engine.proofs.EngineLaws.{at-end}
 use Rattle.link.specs.Link.{cut3}
+use Rattle.circuit.proofs.LoopLaws.{at-end}
 use Rattle.seen.specs.Mirror.{ins-seen}
 use Rattle.seen.proofs.InsLaws.{ins-start, ins-turn, ins-room}
 use Rattle.seen.proofs.inputs_pass.Statement.{statement}

@@ -1,12 +1,11 @@
 use borrow.Author.Needs.{needs}
 use mathlib.Core.Path.{_≡_, refl, _∙_}
 use Prim.Native.Nat.{_-_, _+_, _≤_}
-use native.Mathlib.Omega.{arith}
 use lib.ListN.{length}
 use Rattle.scope.specs.File.{site-of}
-use Rattle.engine.proofs.EngineLaws.{at-end}
+use Rattle.circuit.specs.Loop.{up-to}
+use Rattle.circuit.proofs.LoopLaws.{none-yet, turn, at-end}
 use Rattle.shown.specs.Mirror.{copies-all}
-use Rattle.shown.proofs.ShownLaws.{copies-none, copies-turn}
 use Rattle.shown.proofs.copies_pass.Statement.{statement}
 use Rattle.shown.proofs.copies_pass.Tie as tie
 
@@ -18,7 +17,7 @@ abbrev μ-loop : tie.MeasureT-loop
 μ-loop file c store got₀ site at n k₀ got k = n - k
 
 loop-holds : tie.Need-loop-holds Inv-loop μ-loop
-loop-holds c = (search needs, copies-none _ _ _ _ _ _, refl)
+loop-holds c = (search needs, none-yet _ _, refl)
 
 copies-step-requires : tie.Need-copies-step-requires Inv-loop μ-loop
 copies-step-requires c κs = let p = c .before .before .before .before .before .before .pre in let l = c .before .before .loop in
@@ -26,10 +25,10 @@ copies-step-requires c κs = let p = c .before .before .before .before .before .
 
 loop-again : tie.Need-loop-again Inv-loop μ-loop
 loop-again c = let l = c .before .before .before .before .before .loop in let r = c .before .before .copies-step in
-    (search needs, copies-turn _ _ _ _ _ _ _ _ _ (l .inv .1) (r .ensures), r .kept .1 .1 .1 .0 ∙ l .inv .2)
+    (search needs, turn _ _ _ _ _ (l .inv .1) (r .ensures), r .kept .1 .1 .1 .0 ∙ l .inv .2)
 
 returns : tie.Need-returns Inv-loop μ-loop
-returns c = let l = c .before .loop in at-end (copies-all _ _ _ _ _ _) _ _ _ (l .inv .1) (l .inv .0) (c .loop-test .left)
+returns c = let l = c .before .loop in at-end (up-to _ _) _ _ _ (l .inv .1) (l .inv .0) (c .loop-test .left)
 
 pub copies-pass-spec : {M : Type 1} → statement M
 copies-pass-spec =

@@ -3,9 +3,9 @@ use mathlib.Core.Path.{_≡_, refl, _∙_}
 use Prim.Native.Nat.{_-_, _+_, _≤_}
 use lib.ListN.{length}
 use Rattle.scope.specs.File.{site-of}
-use Rattle.engine.proofs.EngineLaws.{at-end}
+use Rattle.circuit.specs.Loop.{up-to}
+use Rattle.circuit.proofs.LoopLaws.{none-yet, turn, at-end}
 use Rattle.shown.specs.Mirror.{opened-all}
-use Rattle.shown.proofs.ShownLaws.{opened-none, opened-turn}
 use Rattle.shown.proofs.opened_bits.Statement.{statement}
 use Rattle.shown.proofs.opened_bits.Tie as tie
 
@@ -17,7 +17,7 @@ abbrev μ-loop : tie.MeasureT-loop
 μ-loop file c store part₀ site n k₀ part k = n - k
 
 loop-holds : tie.Need-loop-holds Inv-loop μ-loop
-loop-holds c = (search needs, opened-none _ _ _ _ _, refl)
+loop-holds c = (search needs, none-yet _ _, refl)
 
 opened-step-requires : tie.Need-opened-step-requires Inv-loop μ-loop
 opened-step-requires c κs = let p = c .before .before .before .before .before .before .pre in let l = c .before .before .loop in
@@ -25,10 +25,10 @@ opened-step-requires c κs = let p = c .before .before .before .before .before .
 
 loop-again : tie.Need-loop-again Inv-loop μ-loop
 loop-again c = let l = c .before .before .before .before .before .loop in let r = c .before .before .opened-step in
-    (search needs, opened-turn _ _ _ _ _ _ _ _ (l .inv .1) (r .ensures), r .kept .1 .1 .1 .0 ∙ l .inv .2)
+    (search needs, turn _ _ _ _ _ (l .inv .1) (r .ensures), r .kept .1 .1 .1 .0 ∙ l .inv .2)
 
 returns : tie.Need-returns Inv-loop μ-loop
-returns c = let l = c .before .loop in at-end (opened-all _ _ _ _ _) _ _ _ (l .inv .1) (l .inv .0) (c .loop-test .left)
+returns c = let l = c .before .loop in at-end (up-to _ _) _ _ _ (l .inv .1) (l .inv .0) (c .loop-test .left)
 
 pub opened-bits-spec : {M : Type 1} → statement M
 opened-bits-spec =

@@ -1,7 +1,6 @@
 use borrow.Author.Needs.{needs}
 use mathlib.Core.Path.{_≡_}
 use Prim.Native.Nat.{_≤_, _-_}
-use native.Mathlib.Omega.{arith}
 use Rattle.traffic.specs.Mirror.{input-steps, sums-upto}
 use Rattle.traffic.proofs.TrafficCall.{input-few, under-sums, sums-none, sums-turn, sums-end}
 use Rattle.traffic.proofs.inputs_table.Statement.{statement}

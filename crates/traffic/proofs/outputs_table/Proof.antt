@@ -1,6 +1,5 @@
 use borrow.Author.Needs.{needs}
 use mathlib.Core.Path.{_≡_}
-use mathlib.Core.List.{[]}
 use Prim.Native.Nat.{_≤_, _-_}
 use Rattle.traffic.specs.Mirror.{output-steps, sums-upto}
 use Rattle.traffic.proofs.TrafficCall.{output-few, under-sums, sums-none, sums-turn, sums-end}

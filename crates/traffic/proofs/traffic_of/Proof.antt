@@ -1,5 +1,6 @@
 use borrow.Author.Needs.{needs}
-use Rattle.traffic.proofs.TrafficCall.{numbers-are, zeros-are, table-is, checked-from}
+use Rattle.checks.proofs.FrontLaws.{checked-from}
+use Rattle.traffic.proofs.TrafficCall.{numbers-are, zeros-are, table-is}
 use Rattle.traffic.proofs.traffic_of.Statement.{statement}
 use Rattle.traffic.proofs.traffic_of.Tie as tie
 
@@ -8,7 +9,7 @@ returns c = let n = numbers-are _ _ _ (c .before .before .before .check-file .en
     (zeros-are _ _ _ _ (c .before .before .before .check-file .ensures .0) (c .enum-told .given .1), n)
 
 whole-table-requires : tie.Need-whole-table-requires
-whole-table-requires c κs = checked-from (c .before .before .before .before .check-file .result) _ _ (c .before .h .given .1) (c .before .before .before .before .check-file .ensures .1)
+whole-table-requires c κs = checked-from (c .before .before .before .before .check-file .result) _ _ (c .before .h .given .1) (c .before .before .before .before .check-file .ensures .1) .opened
 
 returns-2 : tie.Need-returns-2
 returns-2 c = let n = numbers-are _ _ _ (c .before .before .before .before .before .check-file .ensures .0) (c .before .before .before .before .refusal-of .ensures) in

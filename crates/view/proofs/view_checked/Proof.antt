@@ -1,5 +1,4 @@
 use borrow.Author.Needs.{needs}
-use native.Mathlib.Omega.{arith}
 use Rattle.view.proofs.ViewLaws.{laid, in-order}
 use Rattle.view.proofs.view_checked.Statement.{statement}
 use Rattle.view.proofs.view_checked.Tie as tie

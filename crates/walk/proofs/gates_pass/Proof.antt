@@ -3,10 +3,11 @@ use mathlib.Core.Path.{_≡_, refl, _∙_}
 use Prim.Native.Nat.{_-_, _+_, _≤_}
 use lib.ListN.{length}
 use Rattle.scope.specs.File.{site-of}
-use Rattle.engine.proofs.EngineLaws.{at-end}
 use Rattle.pairs.specs.Mirror.{st}
+use Rattle.circuit.specs.Loop.{up-to}
+use Rattle.circuit.proofs.LoopLaws.{none-yet, turn, at-end}
 use Rattle.walk.specs.Mirror.{gates-on}
-use Rattle.walk.proofs.StepLaws.{gate-room, gates-none, gates-turn}
+use Rattle.walk.proofs.StepLaws.{gate-room}
 use Rattle.walk.proofs.gates_pass.Statement.{statement}
 use Rattle.walk.proofs.gates_pass.Tie as tie
 
@@ -18,7 +19,7 @@ abbrev μ-loop : tie.MeasureT-loop
 μ-loop file c site own next prev room₀ moved₀ n at₀ k₀ room moved at k = n - k
 
 loop-holds : tie.Need-loop-holds Inv-loop μ-loop
-loop-holds c = (search needs, gates-none _ _ _ _ _ _ _ _, refl, refl)
+loop-holds c = (search needs, none-yet _ _, refl, refl)
 
 gate-step-requires : tie.Need-gate-step-requires Inv-loop μ-loop
 gate-step-requires c κs =
@@ -28,10 +29,10 @@ gate-step-requires c κs =
 loop-again : tie.Need-loop-again Inv-loop μ-loop
 loop-again c =
     let l = c .before .before .before .before .before .before .before .before .loop .inv in let r = c .before .before .before .before .gate-step in
-    (search needs, gates-turn _ _ _ _ _ _ _ _ _ _ _ (l .1) (r .ensures), r .kept .1 .1 .1 .1 .1 .1 .0 ∙ l .2, r .kept .1 .1 .1 .1 .1 .1 .1 .0 ∙ l .3)
+    (search needs, turn _ _ _ _ _ (l .1) (r .ensures), r .kept .1 .1 .1 .1 .1 .1 .0 ∙ l .2, r .kept .1 .1 .1 .1 .1 .1 .1 .0 ∙ l .3)
 
 returns : tie.Need-returns Inv-loop μ-loop
-returns c = let l = c .before .loop .inv in at-end (gates-on _ _ _ _ _ _ _ _) _ _ _ (l .1) (l .0) (c .loop-test .left)
+returns c = let l = c .before .loop .inv in at-end (up-to _ _) _ _ _ (l .1) (l .0) (c .loop-test .left)
 
 pub gates-pass-spec : {M : Type 1} → statement M
 gates-pass-spec =

@@ -4,8 +4,8 @@ use Prim.Native.Nat.{_-_, _+_, _*_, _≤_}
 use lib.ListN.{length, take, drop}
 use Rattle.scope.specs.File.{site-of, circuit}
 use Rattle.scope.specs.Calls.{at-wire}
-use Rattle.engine.proofs.EngineLaws.{at-end}
 use Rattle.pairs.specs.Mirror.{st}
+use Rattle.circuit.proofs.LoopLaws.{at-end}
 use Rattle.walk.specs.Mirror.{in-state}
 use Rattle.walk.proofs.StateLaws.{in-start}
 use Rattle.walk.proofs.WalkLaw.{in-fits, in-turn}

@@ -4,9 +4,9 @@ use mathlib.Core.Path.{ap, _∙_}
 use Prim.Native.Nat.{ℕ, _+_}
 use Rattle.steps.specs.Mirror.{held-at}
 use Rattle.circuit.proofs.ReaderLaws.{output-none}
 use Rattle.openings.proofs.OpeningLaws.{wire-is, wire-below}
-use Rattle.shown.proofs.output_pairs.Statement.{statement}
-use Rattle.shown.proofs.output_pairs.Tie as tie
+use Rattle.openings.proofs.output_pairs.Statement.{statement}
+use Rattle.openings.proofs.output_pairs.Tie as tie
 
 returns : tie.Need-returns
 returns c = absurd (output-none _ _ _ _ _ _ (c .before .before .output-with .ensures) (c .enum-told .given .1) (c .before .before .before .before .before .before .pre .0 .1))

@@ -1,8 +1,8 @@
 use borrow.Author.Needs.{needs}
 use mathlib.Core.Path.{sym, ap}
-use Rattle.plain.specs.Mirror.{refusal-of}
-use Rattle.plain.proofs.refused.Statement.{statement}
-use Rattle.plain.proofs.refused.Tie as tie
+use Rattle.checks.specs.Mirror.{refusal-of}
+use Rattle.checks.proofs.refused.Statement.{statement}
+use Rattle.checks.proofs.refused.Tie as tie
 
 returns : tie.Need-returns
 returns c = sym (ap refusal-of (c .enum-told .given .1))

@@ -1,12 +1,12 @@
 use borrow.Author.Needs.{needs}
-use mathlib.Core.Path.{_≡_, refl, _∙_}
+use mathlib.Core.Path.{_≡_, refl}
 use Prim.Native.Nat.{_-_, _≤_}
 use native.Mathlib.Nat.{le-antisymm}
 use lib.ListN.{length, take}
 use Rattle.sharing.specs.Store.{fill}
-use Rattle.renew.proofs.PartLaws.{copy-none, copy-turn, copy-all}
-use Rattle.renew.proofs.copy.Statement.{statement}
-use Rattle.renew.proofs.copy.Tie as tie
+use Rattle.numbers.proofs.CopyLaws.{copy-none, copy-turn, copy-all}
+use Rattle.numbers.proofs.copy.Statement.{statement}
+use Rattle.numbers.proofs.copy.Tie as tie
 
 abbrev Inv-loop : tie.InvT-loop
 Inv-loop from to₀ n k₀ to k = (k ≤ n) × (to ≡ fill to₀ (take k from)) × (length to ≡ length to₀)
