@@ -1,8 +1,11 @@
 // Reads a stream of calls from standard input, makes each of them and prints what it answers. docs/TRIALS.md has the form of both.
+mod jobs;
+mod retapes;
+mod several;
+mod views;
+
 use asks::single;
 use asks::values;
-use runs::jobs;
-use runs::several;
 use stream::input;
 use stream::input::Read;
 use stream::print;

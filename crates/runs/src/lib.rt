@@ -1,3 +1,0 @@
-// Trials of the run and of the listing.
-pub mod jobs;
-pub mod several;
