@@ -29,6 +29,7 @@ def listed():
 MARK = re.compile(r"//+\s*PUBLIC\b")
 FUNCTION = re.compile(r"pub (?:extern \"C\" )?fn (\w+)")
 ROW = re.compile(r"^\| `\w+`[^|]* \| \[`(\w+)`\]\(\.\./(crates/[^)]+\.rt)\) \|", re.M)
+DOOR = re.compile(r"\[`(bakebutton_\w+)`\]\(\.\./(crates/panel/src/lib\.rt)\)")  # the same calls for C: a row has several
 
 
 def sources():
@@ -75,9 +76,10 @@ def public_problems():
         seen.add((name, str(path)))
         if re.search(r"^\s*requires\b", contract, re.M):
             yield f"{path}: public call {name} has a requires"
-        if not re.search(r"^\s*ensures\b.*\b(?:does|read-as) \(", contract, re.M | re.S):
+        if not re.search(r"^\s*ensures\b.*\b(?:does \(|read-as \(|Tells )", contract, re.M | re.S):
             yield f"{path}: public call {name} does not promise what its call does"
-    named = set(ROW.findall((ROOT / "docs" / "STATEMENTS.md").read_text()))
+    text = (ROOT / "docs" / "STATEMENTS.md").read_text()
+    named = set(ROW.findall(text)) | set(DOOR.findall(text)) - {("bakebutton_text_bytes", "crates/panel/src/lib.rt")}
     for name, path in sorted(seen ^ named):
         yield f"{path}: {name} is " + ("not in docs/STATEMENTS.md's table of functions" if (name, path) in seen else "in docs/STATEMENTS.md's table of functions, and no public call")
     if not seen:

@@ -1,3 +1,2 @@
-pub mod StepLaws
 pub mod GateLaws
 pub mod GatesLaws

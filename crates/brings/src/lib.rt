@@ -103,14 +103,12 @@ fn kind_step(
         steps::add_sites(store, n, a, b, w);
         return pos;
     }
-    if kind == 2 {
-        return and_gate(tapes, store, got, site, n, a, b, w, 0, pos);
-    }
     if kind == 3 {
         steps::not_sites(store, n, a, w);
         return pos;
     }
-    and_gate(tapes, store, got, site, n, a, b, w, 1, pos)
+    let o = steps::or_bit(kind);
+    and_gate(tapes, store, got, site, n, a, b, w, o, pos)
 }
 
 // Gate k of a checked file.

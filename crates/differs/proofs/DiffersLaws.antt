@@ -1,13 +1,13 @@
 -- 13, as the code goes through it, is scope's row.
---     own-law, opened-law, opened-low     the two tests, of an owner and an output wire as they were read
+--     own-law                             the test of an own input
 --     own-place, opened-place, no-place   the place of 13, by the first of each test
 --     own-fault, opened-fault             which is the row's fault
 -- Assumes nothing.
 use mathlib.Core.Path.{_≡_, refl, sym, ap, ap₂, _∙_, subst}
 use mathlib.Core.Logic.{⊎-elim}
 use mathlib.Core.Bool.{Bool, true, false, not, cond, _&&_}
-use mathlib.Core.List.{List, _++_}
-use Prim.Native.Nat.{ℕ, zero, suc, _+_, _*_, _-_, _<_, _≤_}
+use mathlib.Core.List.{List}
+use Prim.Native.Nat.{ℕ, _+_, _*_, _-_, _<_, _≤_}
 use native.Mathlib.Omega.{arith}
 use native.Mathlib.Nat.{eq-or-lt-of-le, le-of-eq}
 use lib.ListN.{length, getD, take, List·getD-append}
@@ -17,7 +17,7 @@ use borrow.Author.Tests.{lt-ltb, le-ltb, ltb-true, ltb-false}
 use Rattle.sharing.specs.Sites.{Site, is}
 use Rattle.sharing.specs.Circuit.{Circuit, wires}
 use Rattle.sharing.specs.First.{first}
-use Rattle.sharing.proofs.FirstLaws.{Clear, first-at, first-none, first-hit, first-before, first-le}
+use Rattle.sharing.proofs.FirstLaws.{first-at, first-none, first-hit, first-before, first-le}
 use Rattle.scope.specs.File.{output-at, site-of, circuit}
 use Rattle.scope.specs.Checks.{fault, row-differs}
 use Rattle.scope.specs.Plain.{plain, plain-out}
@@ -25,10 +25,6 @@ use Rattle.scope.specs.Calls.{both-plain}
 use Rattle.scope.proofs.PlainLaws.{plain-length}
 use Rattle.scope.proofs.RowLaws.{differs}
 use Rattle.header.specs.declared.Counts.{Counts}
-use Rattle.circuit.specs.declared.Output.{Output}
-use Rattle.circuit.specs.declared.Output.the-variants.{Is as OutputIs}
-use Rattle.circuit.specs.Mirror.{output-by}
-use Rattle.circuit.proofs.ReaderLaws.{output-some}
 use Rattle.circuit.specs.Checked.{Checked}
 use Rattle.differs.specs.Mirror.{own-differs, opened-differs, two-sets}
 
@@ -40,14 +36,6 @@ own-law f s x y k r e = ap (λ (z : ℕ). eqb z 1 && not (eqb (getD x k 0) (getD
     go : (b : Bool) → (eqb (cond b 1 0) 1 && not (eqb (getD x k 0) (getD y k 0))) ≡ (b && not (eqb (getD x k 0) (getD y k 0)))
     go true = refl
     go false = refl
-
-module _ (f : List ℕ) (c : Counts) (k w : ℕ) (r : Output) (e : r ≡ output-by f c k) (q : r ≡ OutputIs w) (h : k < c .outputs) where
-  pub opened-law : (room : List ℕ) → not (eqb (getD room w 0) (getD room (c .inputs + c .gates + w) 0)) ≡ opened-differs f (c .inputs) (c .gates) room k
-  unfolding opened-differs
-  opened-law room = ap (λ (z : ℕ). not (eqb (getD room z 0) (getD room (c .inputs + c .gates + z) 0))) (output-some f c k w r e q h)
-
-  pub opened-low : Checked f c → w < c .inputs + c .gates
-  opened-low ck = subst (λ (z : ℕ). z < c .inputs + c .gates) (sym (output-some f c k w r e q h)) (ck .outputs k h)
 
 -- the place of 13
 module _ (f x y : List ℕ) (s : Site) (c : Counts) (ck : Checked f c) where

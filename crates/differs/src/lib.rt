@@ -1,6 +1,6 @@
 // 13, in its two halves: the first own input that differs, the first opened bit that differs.
 ghost use mathlib.Core.Path.{_≡_};
-ghost use Prim.Native.Nat.{ℕ, _+_, _*_, _<_, _≤_};
+ghost use Prim.Native.Nat.{_+_, _*_, _<_};
 ghost use lib.ListN.{length, take};
 ghost use Rattle.sharing.specs.First.{first};
 ghost use Rattle.scope.specs.File.{circuit, site-of};

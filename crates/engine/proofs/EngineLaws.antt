@@ -1,8 +1,8 @@
 -- What the proofs of the passes cite.
 --     and-law                         AND and OR, from what each stage gives
 --     lower-of                        a good gate reads lower wires
---     xor-kind, and-kind, not-kind, or-kind    the gate that a kind's number means
---     gate-is, gate-lower             the gate that was read is the circuit's, and reads lower wires
+--     xor-kind, not-kind    the gate that a kind's number means;  and-or-kind, and-or-lower, and-or-deals: the others, AND and OR together
+--     gate-lower                      the gate that was read reads lower wires
 --     placed-eq, one-more, in-pos-is  equal places; the places after one input more of one site
 -- Assumes nothing.
 use mathlib.Core.Path.{_≡_, refl, sym, ap, _∙_, subst}
@@ -17,10 +17,9 @@ use borrow.Author.Tests.{ne-eqb}
 use Rattle.sharing.specs.Ops.{bits}
 use Rattle.sharing.specs.Sites.{Site, s1, s2, s3, is}
 use Rattle.sharing.specs.Circuit.{Gate, XOR, AND, OR, NOT, dealing, ands, owned}
-use Rattle.scope.specs.File.{kind-at, first-at, second-at, owner-at, gate-of, site-of, circuit}
+use Rattle.scope.specs.File.{owner-at, gate-of, site-of, circuit}
 use Rattle.scope.specs.Checks.{good-gate}
 use Rattle.header.specs.declared.Counts.{Counts}
-use Rattle.header.specs.Opened.{Opened}
 use Rattle.circuit.specs.declared.Gate.{Gate as Read}
 use Rattle.circuit.specs.declared.Gate.the-variants.{Is as GateIs}
 use Rattle.circuit.specs.Mirror.{gate-by}
@@ -28,11 +27,9 @@ use Rattle.circuit.proofs.ReaderLaws.{gate-some}
 use Rattle.circuit.specs.Checked.{Checked}
 use Rattle.circuit.proofs.SiteLaws.{by-number}
 use Rattle.circuit.proofs.CheckedLaws.{operands-lower}
-use Rattle.messages.specs.Mirror.{deal-at, on-line, in-pairs, line-at}
-use Rattle.steps.specs.Mirror.{put-four, put-held, sends, takes, on-lines, put-twelve}
+use Rattle.messages.specs.Mirror.{line-at}
+use Rattle.steps.specs.Mirror.{or-bit, sends, takes, on-lines, put-twelve}
 use Rattle.messages.specs.declared.Twelve.{Twelve}
-use Rattle.messages.specs.declared.Four.{Four}
-use Rattle.messages.specs.declared.Held.{Held}
 use Rattle.circuit.specs.Loop.{up-to}
 use Rattle.engine.specs.declared.Pos.{Pos}
 use Rattle.engine.specs.Mirror.{St, st, placed, next-pos, and-on, gate-on, Lower, Room, gates-on, own-place, in-pos, input-on, inputs-on, InRoom}
@@ -60,30 +57,34 @@ module _ (kind a b : ℕ) where
   unfolding gate-of
   xor-kind e = ap (λ (k : ℕ). gate-of k a b) e
 
-  pub and-kind : kind ≡ 2 → gate-of kind a b ≡ AND a b
-  unfolding gate-of
-  and-kind e = ap (λ (k : ℕ). gate-of k a b) e
-
   pub not-kind : kind ≡ 3 → gate-of kind a b ≡ NOT a
   unfolding gate-of
   not-kind e = ap (λ (k : ℕ). gate-of k a b) e
 
-pub or-kind : (kind a b : ℕ) → (kind ≡ 1 → ⊥) → (kind ≡ 2 → ⊥) → (kind ≡ 3 → ⊥) → gate-of kind a b ≡ OR a b
+-- a kind that is neither XOR nor NOT is AND or OR, and or-bit tells which: so what holds of both holds of it
+pub and-or-kind : {A : Type 0} (of-gate : Gate → A) (of-bit : ℕ → A) (kind a b o : ℕ) → (kind ≡ 1 → ⊥) → (kind ≡ 3 → ⊥) → o ≡ or-bit kind
+    → of-gate (AND a b) ≡ of-bit 0 → of-gate (OR a b) ≡ of-bit 1 → of-gate (gate-of kind a b) ≡ of-bit o
+unfolding gate-of or-bit
+and-or-kind f g zero a b o p q e x y = y ∙ ap g (sym e)
+and-or-kind f g (suc zero) a b o p q e x y = absurd (p refl)
+and-or-kind f g (suc (suc zero)) a b o p q e x y = x ∙ ap g (sym e)
+and-or-kind f g (suc (suc (suc zero))) a b o p q e x y = absurd (q refl)
+and-or-kind f g (suc (suc (suc (suc n)))) a b o p q e x y = y ∙ ap g (sym (e ∙ rw (ne-eqb (suc (suc (suc (suc n)))) 2 (λ h. omega arith)) refl))
+
+pub and-or-lower : (kind a b w : ℕ) → (kind ≡ 1 → ⊥) → (kind ≡ 3 → ⊥) → Lower (gate-of kind a b) w → (a < w) × (b < w)
 unfolding gate-of
-or-kind zero a b p q r = refl
-or-kind (suc zero) a b p q r = absurd (p refl)
-or-kind (suc (suc zero)) a b p q r = absurd (q refl)
-or-kind (suc (suc (suc zero))) a b p q r = absurd (r refl)
-or-kind (suc (suc (suc (suc n)))) a b p q r = refl
+and-or-lower zero a b w p q h = h
+and-or-lower (suc zero) a b w p q h = absurd (p refl)
+and-or-lower (suc (suc zero)) a b w p q h = h
+and-or-lower (suc (suc (suc zero))) a b w p q h = absurd (q refl)
+and-or-lower (suc (suc (suc (suc n)))) a b w p q h = h
 
--- the gate that was read is the circuit's
-pub gate-is : (s : List ℕ) (c : Counts) (k kind a b : ℕ) (r : Read) → Opened s c → r ≡ gate-by s c k → r ≡ GateIs kind a b → k < c .gates
-    → gate-of kind a b ≡ circuit s .gate k
-gate-is s c k kind a b r o e q h =
-    let v = gate-some s c k kind a b r e q h in
-    (λ i. gate-of (v .0 i) (v .1 i) (v .2 i)) ∙ ap (λ (n : ℕ). gate-of (kind-at s n k) (first-at s n k) (second-at s n k)) (o .ins-are)
+-- it deals once
+pub and-or-deals : (kind a b : ℕ) → (kind ≡ 1 → ⊥) → (kind ≡ 3 → ⊥) → dealing (gate-of kind a b) ≡ 1
+unfolding dealing
+and-or-deals kind a b p q = and-or-kind dealing (λ (o : ℕ). 1) kind a b (or-bit kind) p q refl refl refl
 
--- and it is good
+-- the gate that was read is good
 pub gate-lower : (s : List ℕ) (c : Counts) (k kind a b : ℕ) (r : Read) → Checked s c → r ≡ gate-by s c k → r ≡ GateIs kind a b → k < c .gates
     → Lower (gate-of kind a b) (c .inputs + k)
 gate-lower s c k kind a b r o e q h =
@@ -147,20 +148,6 @@ room-at file tapes line i n x y k g r r′ h e o q =
     record { one = omega arith; two = omega arith; thr = omega arith; lin = omega arith; trn = omega arith; few-tapes = o .few-tapes; few-line = o .few-line }
 
 -- ---- inputs
-pub input-law : (tapes line : List ℕ) (n w v owner : ℕ) (pos : Pos) (store tr : List ℕ) (t : ℕ) (k g : Four) (h : Held) (d l : List ℕ) (p : Pos)
-    → t ≡ own-place owner pos → k ≡ deal-at bits tapes t v → g ≡ on-line bits (line-at line (pos .at)) k → d ≡ put-four (pos .at) g tr
-    → h ≡ in-pairs owner k g → l ≡ put-held n w h store → p ≡ in-pos owner pos → st l d p ≡ input-on tapes line n w v owner (st store tr pos)
-unfolding input-on
-input-law tapes line n w v owner pos store tr t k g h d l p h1 h2 h3 h4 h5 h6 h7 = cc
-
--- the owner that was read is the file's
-module _ (a b : ℕ) (is : a ≡ b) where
-  pub owner-room : (pos : Pos) (t l r : ℕ) → (own-place b pos + 2 ≤ t) × (pos .at + 4 ≤ l) × (pos .at + 4 ≤ r) → (own-place a pos + 2 ≤ t) × (pos .at + 4 ≤ l) × (pos .at + 4 ≤ r)
-  owner-room pos t l r h = subst (λ (o : ℕ). (own-place o pos + 2 ≤ t) × (pos .at + 4 ≤ l) × (pos .at + 4 ≤ r)) (sym is) h
-
-  pub owner-on : (tapes line : List ℕ) (n w v : ℕ) (x y : St) → y ≡ input-on tapes line n w v a x → y ≡ input-on tapes line n w v b x
-  owner-on tapes line n w v x y e = e ∙ ap (λ (o : ℕ). input-on tapes line n w v o x) is
-
 -- the places after k inputs, of which each site owns so many
 abbrev pub in-moved : (Site → ℕ) → ℕ → Pos → Pos
 in-moved m k p = placed (p .t1 + 2 * m s1) (p .t2 + 2 * m s2) (p .t3 + 2 * m s3) (p .at + 4 * k)

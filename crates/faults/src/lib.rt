@@ -1,19 +1,29 @@
 // One test each, on numbers and bytes: what refusals 5, 10, 11 and 14 and "a byte above 1" ask of a gate's numbers, a size, a site, a job header or a byte;
 // and what is counted of one gate.
 ghost use mathlib.Core.Path.{_≡_};
+ghost use mathlib.Core.Bool.{cond};
 ghost use Prim.Native.Nat.{_<_, _≤_};
 ghost use lib.ListN.{length};
+ghost use lib.Dec.{eqb};
 ghost use Rattle.scope.specs.Checks.{one-to-three};
 ghost use Rattle.faults.specs.Mirror.{bad-kind, above, wrong-size, job-place, deals, site-no};
+
+// What a gate's second number must be below: NOT has 0 there.
+fn second_limit(kind: u16, w: usize) -> usize
+    ensures { λ r. ⌜ r ≡ cond (eqb kind 3) 1 w ⌝ }
+{
+    if kind != 3 {
+        return w;
+    }
+    1
+}
 
 // 5: unknown kind, operand not a lower wire, or NOT with second not 0.
 pub fn kind_bad(kind: u16, a: u16, b: u16, w: usize) -> bool
     ensures { λ r. ⌜ r ≡ bad-kind kind a b w ⌝ }
 {
-    !((1 <= kind)
-        & (kind <= 4)
-        & ((a as usize) < w)
-        & (((kind == 3) & (b == 0)) | ((kind != 3) & ((b as usize) < w))))
+    let limit = second_limit(kind, w);
+    !((1 <= kind) & (kind <= 4) & ((a as usize) < w) & ((b as usize) < limit))
 }
 
 // 7, 8, 9, 12: a byte above 1.

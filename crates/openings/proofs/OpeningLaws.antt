@@ -1,8 +1,7 @@
 -- What the proofs of the openings cite.
---     wire-is, wire-below             the wire that was read is the circuit's, and one of the store's
 --     stopped-.., went-on, ended-..   a site objects, none does, none did: at which output, by which sites, with which transcript
 -- Assumes nothing.
-use mathlib.Core.Path.{_≡_, refl, sym, ap, _∙_, subst}
+use mathlib.Core.Path.{_≡_, refl, sym, ap, _∙_}
 use mathlib.Core.Bool.{Bool, true, false, not, cond}
 use mathlib.Core.List.{List}
 use Prim.Native.Nat.{ℕ, suc, _+_, _<_, _≤_, min}
@@ -12,27 +11,9 @@ use lib.Dec.{ltb, eqb}
 use borrow.Author.Tests.{lt-ltb, le-ltb, eq-eqb, ne-eqb}
 use Rattle.sharing.specs.First.{first}
 use Rattle.sharing.proofs.FirstLaws.{Clear, found, passed}
-use Rattle.scope.specs.File.{circuit, output-at}
-use Rattle.header.specs.declared.Counts.{Counts}
-use Rattle.header.specs.Opened.{Opened}
-use Rattle.circuit.specs.declared.Output.{Output as Read}
-use Rattle.circuit.specs.declared.Output.the-variants.{Is as OutputIs}
-use Rattle.circuit.specs.Mirror.{output-by}
-use Rattle.circuit.proofs.ReaderLaws.{output-some}
-use Rattle.circuit.specs.Checked.{Checked}
 use Rattle.engine.specs.Mirror.{objects-on, open-on, opens-on}
 use Rattle.circuit.specs.Loop.{up-to}
 
--- the wire that was read is the circuit's
-pub wire-is : (s : List ℕ) (c : Counts) (k w : ℕ) (r : Read) → Opened s c → r ≡ output-by s c k → r ≡ OutputIs w → k < c .outputs → w ≡ circuit s .out k
-wire-is s c k w r o e q h =
-    output-some s c k w r e q h ∙ (λ i. output-at s (o .ins-are i) (o .gates-are i) k)
-
--- and it is one of the store's
-pub wire-below : (s : List ℕ) (c : Counts) (k w : ℕ) (r : Read) → Checked s c → r ≡ output-by s c k → r ≡ OutputIs w → k < c .outputs → w < c .inputs + c .gates
-wire-below s c k w r o e q h = subst (λ (v : ℕ). v < c .inputs + c .gates) (sym (output-some s c k w r e q h)) (o .outputs k h)
-
--- ---- the first pass
 module _ (file line store : List ℕ) (n at : ℕ) where
   -- a site objects at output k
   abbrev pub objected : ℕ → Bool

@@ -1,6 +1,6 @@
 -- What the proofs of a site's steps cite.
 --     mix-law                                an AND's pair and draws
---     and-law, xor-law, not-law              a gate of each kind
+--     and-law, xor-law                       a gate of either kind
 use mathlib.Core.Path.{_≡_}
 use mathlib.Core.List.{List}
 use Prim.Native.Nat.{ℕ, _+_, _*_}
@@ -16,7 +16,7 @@ use Rattle.messages.specs.declared.Four.{Four}
 use Rattle.steps.specs.Mirror.{lent, on-part}
 use Rattle.pairs.specs.declared.Places.{Places}
 use Rattle.pairs.specs.declared.Mixed.{Mixed}
-use Rattle.pairs.specs.Mirror.{st, forward-of, flipped, mixed, put-two, and-on, xor-on, not-on}
+use Rattle.pairs.specs.Mirror.{st, forward-of, flipped, mixed, put-two, and-on, xor-on}
 
 pub mix-law : (own next prev : List ℕ) (at : Places) (p q : Two) (u v y z : ℕ) (f g l : ℕ) (k m : Four)
     → f ≡ next-product bits (pair-of p) u (pair-of q) v → g ≡ next-product bits (pair-of p) y (pair-of q) z → l ≡ local bits (pair-of p) (pair-of q)
@@ -42,8 +42,3 @@ pub xor-law : (n a b w : ℕ) (room l : List ℕ) (p q : Two) → p ≡ two-at (
     → l ≡ on-part (2 * n) (4 * n) (put-at w (bits .add (p .x) (q .x), bits .add (p .y) (q .y))) room → l ≡ xor-on n a b w room
 unfolding xor-on
 xor-law n a b w room l p q h1 h2 h3 = cc
-
-pub not-law : (s : Site) (n a w : ℕ) (room l : List ℕ) (p q : Two) → p ≡ two-at (lent (2 * n) (4 * n) room) a → q ≡ flipped s 1 p
-    → l ≡ on-part (2 * n) (4 * n) (put-at w (pair-of q)) room → l ≡ not-on s n a w room
-unfolding not-on
-not-law s n a w room l p q h1 h2 h3 = cc

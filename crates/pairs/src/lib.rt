@@ -214,14 +214,12 @@ fn kind_step(
         xor_gate(room, n, a, b, w);
         return at;
     }
-    if kind == 2 {
-        return and_gate(site, own, next, prev, room, moved, n, a, b, w, 0, at);
-    }
     if kind == 3 {
         not_gate(site, room, n, a, w);
         return at;
     }
-    and_gate(site, own, next, prev, room, moved, n, a, b, w, 1, at)
+    let o = steps::or_bit(kind);
+    and_gate(site, own, next, prev, room, moved, n, a, b, w, o, at)
 }
 
 // Gate k of a checked file.

@@ -1,16 +1,15 @@
--- What the proofs of the functions that write a view's parts cite.
---     own-yes, own-no, own-turn, own-room, own-end    own inputs
---     copies-law, bit-law     an opening, from what each stage gives
+-- Own inputs, as the code writes them.
+--     own-yes, own-no             an input that is the site's own, and one that is not
+--     own-none, own-turn, own-room, own-end    the loop
 -- Assumes nothing.
 use mathlib.Core.Path.{_≡_, refl, sym, ap, _∙_}
 use mathlib.Core.Bool.{Bool, true, false, cond}
 use mathlib.Core.List.{List, [], _∷_, _++_, append-nil}
-use Prim.Native.Nat.{ℕ, zero, suc, _+_, _*_, _<_, _≤_}
+use Prim.Native.Nat.{ℕ, zero, suc, _+_, _<_, _≤_}
 use native.Mathlib.Omega.{arith}
 use native.Mathlib.Numerals.{add-one}
 use native.Mathlib.Nat.{le-antisymm}
 use lib.ListN.{length, getD, set}
-use Rattle.sharing.specs.Ops.{bits}
 use Rattle.sharing.specs.Sites.{Site, is, if-own}
 use Rattle.sharing.specs.Circuit.{Circuit, owned, all-owned}
 use Rattle.sharing.specs.Store.{fill}
@@ -21,13 +20,9 @@ use Rattle.scope.specs.File.{circuit}
 use Rattle.scope.specs.Calls.{at-wire}
 use Rattle.header.specs.declared.Counts.{Counts}
 use Rattle.header.specs.Opened.{Opened}
-use Rattle.steps.specs.Mirror.{held-at}
-use Rattle.messages.specs.declared.Two.{Two}
-use Rattle.messages.specs.declared.Held.{Held}
 use Rattle.engine.proofs.EngineLaws.{owned-room}
-use Rattle.seen.specs.Mirror.{pair-of-site, put-two}
 use Rattle.seen.proofs.InsLaws.{one-or-none}
-use Rattle.shown.specs.Mirror.{copies-of-site, opened-bit, put-own, copies-on, opened-on}
+use Rattle.shown.specs.Mirror.{put-own}
 
 -- ---- own inputs
 pub own-no : (own q p v : ℕ) (l : List ℕ) → own ≡ q → own ≡ 0 → (l ≡ put-own q p v l) × (p ≡ p + q)
@@ -81,16 +76,3 @@ module _ (f xs old : List ℕ) (s : Site) (c : Counts) (op : Opened f c) (lo : l
 pub own-none : (s : Site) (C : Circuit) (x : ℕ → ℕ) (old : List ℕ) → (old ≡ fill old (own-ins s C x 0)) × (0 ≡ owned (C .owner) s 0)
 unfolding own-ins owned fill
 own-none s C x old = (refl, refl)
-
--- ---- an opening
-pub copies-law : (s : Site) (file store : List ℕ) (n at k : ℕ) (h : Held) (p : Two) (l l′ : List ℕ) → h ≡ held-at n (circuit file .out k) store → p ≡ copies-of-site s h
-    → l′ ≡ put-two (at + 2 * k) p l → l′ ≡ copies-on s file store n at k l
-unfolding copies-on
-copies-law s file store n at k h p l l′ a b d = d ∙ ap (λ (z : Two). put-two (at + 2 * k) z l) (b ∙ ap (copies-of-site s) a)
-
-pub bit-law : (s : Site) (file store : List ℕ) (n k : ℕ) (h : Held) (p g : Two) (l : List ℕ) → h ≡ held-at n (circuit file .out k) store → p ≡ pair-of-site s h
-    → g ≡ copies-of-site s h → set l k (bits .add (bits .add (p .x) (p .y)) (g .x)) ≡ opened-on s file store n k l
-unfolding opened-on opened-bit
-bit-law s file store n k h p g l a b d =
-    let P = b ∙ ap (pair-of-site s) a in let G = d ∙ ap (copies-of-site s) a in
-    λ i. set l k (bits .add (bits .add (P i .x) (P i .y)) (G i .x))

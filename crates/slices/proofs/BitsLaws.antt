@@ -1,20 +1,24 @@
 -- The fault of a slice of bits, as the code meets it.
 --     bits-short, bits-above, bits-sound    its three ways out;  bits-long: where there is no fault the slice has its length
+--     under-none, under-more, under-all    no byte is above the largest, as a loop meets it;  under-first: where that is 0 or 1 there is none above 1
 -- Assumes nothing.
-use mathlib.Core.Path.{_≡_, refl, sym, _∙_}
+use mathlib.Core.Path.{_≡_, refl, sym, _∙_, subst}
 use mathlib.Core.Bool.{Bool, true, false}
 use mathlib.Core.List.{List}
 use Prim.Native.Nat.{ℕ, suc, _+_, _<_, _≤_}
 use native.Mathlib.Omega.{arith}
+use native.Mathlib.Nat.{le-antisymm}
 use native.Mathlib.Numerals.{add-one}
-use lib.ListN.{length}
+use lib.ListN.{length, getD}
 use lib.Dec.{ltb}
-use borrow.Author.Tests.{lt-ltb, ltb-true, eq-eqb, ne-eqb}
+use borrow.Author.Tests.{lt-ltb, ltb-true, le-leb, eq-eqb, ne-eqb}
+use borrow.Author.Count.{below-none, below-more}
 use Rattle.sharing.specs.First.{first}
 use Rattle.sharing.proofs.FirstLaws.{Clear, first-at, first-none, first-hit, first-before, first-clear}
 use Rattle.scope.specs.Checks.{fault, bits-row}
 use Rattle.scope.proofs.RowLaws.{bits-clear}
 use Rattle.faults.specs.Mirror.{above}
+use Rattle.slices.specs.Mirror.{Under}
 
 -- the fault of a slice of bits: the wanted length, an index, or one beyond
 module _ (s : List ℕ) (want : ℕ) where
@@ -50,3 +54,19 @@ module _ (s : List ℕ) (want : ℕ) where
   pub bits-long : (k : ℕ) → k ≡ fault (bits-row s want) → want < k → length s ≡ want
   unfolding fault
   bits-long k e h = bits-clear s want (first-clear (bits-row s want .bad) (suc want) (omega arith)) .long
+
+-- the largest byte
+pub under-none : (s : List ℕ) (m : ℕ) → Under s m 0
+unfolding Under
+under-none s m = below-none (λ (k : ℕ). getD s k 0 ≤ m)
+
+pub under-more : (s : List ℕ) (m r i : ℕ) → Under s m i → m ≤ r → getD s i 0 ≤ r → Under s r (i + 1)
+unfolding Under
+under-more s m r i u h l = below-more (λ (k : ℕ). getD s k 0 ≤ r) i (λ k j. let z : getD s k 0 ≤ m = u k j in omega arith) l
+
+pub under-all : (s : List ℕ) (m i n : ℕ) → Under s m i → i ≤ n → n ≤ i → Under s m n
+under-all s m i n u a b = subst (λ (k : ℕ). Under s m k) (le-antisymm a b) u
+
+pub under-first : (s : List ℕ) (m n : ℕ) → Under s m (length s) → m ≤ 1 → length s ≡ n → n ≡ first (above s) n
+unfolding above Under
+under-first s m n u h e = sym (first-none (above s) n (λ k l. let z : getD s k 0 ≤ m = u k (omega arith) in rw (le-leb (getD s k 0) 1 (omega arith))))

@@ -1,9 +1,15 @@
--- What the job's check computes. No public contract cites it: laws tie it to the calls of scope.
+-- What the slices' checks compute. No public contract cites these: laws tie them to the calls of scope.
+--     Under             no byte before a place is above a number
+--     job-fault-of      14
 use mathlib.Core.List.{List}
-use Prim.Native.Nat.{ℕ}
+use Prim.Native.Nat.{ℕ, _<_, _≤_}
+use lib.ListN.{getD}
 use Rattle.scope.specs.Checks.{fault, row-job}
 use Rattle.scope.specs.Calls.{Listing, given-of}
 
 -- 14, as scope's row has it
 abbrev pub job-fault-of : List ℕ → ℕ
 job-fault-of j = fault (row-job (given-of (Listing j)))
+
+unfoldable pub Under : List ℕ → ℕ → ℕ → Type 0
+Under s m n = (k : ℕ) → k < n → getD s k 0 ≤ m

@@ -5,10 +5,34 @@ ghost use lib.ListN.{length};
 ghost use Rattle.sharing.specs.First.{first};
 ghost use Rattle.scope.specs.Checks.{fault, bits-row};
 ghost use Rattle.faults.specs.Mirror.{above, wrong-size};
-ghost use Rattle.slices.specs.Mirror.{job-fault-of};
+ghost use Rattle.slices.specs.Mirror.{Under, job-fault-of};
 
-// The first byte above 1, or n.
-pub fn first_above(s: &[u8], n: usize) -> usize
+// The larger of two bytes.
+fn larger(x: u8, y: u8) -> u8
+    ensures { λ r. ⌜ (x ≤ r) × (y ≤ r) ⌝ }
+{
+    if x < y {
+        return y;
+    }
+    x
+}
+
+// No byte of the slice is above the answer. Nothing stops this loop in the middle, so that a compiler may take many bytes at a time.
+fn largest(s: &[u8]) -> u8
+    ensures { λ r. ⌜ Under (now (s .entry)) r (length (now (s .entry))) ⌝ }
+{
+    let n = s.len();
+    let mut m: u8 = 0;
+    let mut k: usize = 0;
+    while k < n {
+        m = larger(m, s[k]);
+        k += 1;
+    }
+    m
+}
+
+// The first byte above 1, or n, looked for byte by byte.
+fn find_above(s: &[u8], n: usize) -> usize
     requires { ⌜ length (now s) ≡ n ⌝ }
     ensures { λ r. ⌜ r ≡ first (above (now (s .entry))) n ⌝ }
 {
@@ -20,6 +44,17 @@ pub fn first_above(s: &[u8], n: usize) -> usize
         k += 1;
     }
     n
+}
+
+// The first byte above 1, or n. As a rule there is none, and then no byte is looked at alone.
+pub fn first_above(s: &[u8], n: usize) -> usize
+    requires { ⌜ length (now s) ≡ n ⌝ }
+    ensures { λ r. ⌜ r ≡ first (above (now (s .entry))) n ⌝ }
+{
+    if largest(s) <= 1 {
+        return n;
+    }
+    find_above(s, n)
 }
 
 // 7, 8, 9, 12: the place of the fault of a slice of bits, the wanted length or an index; one above the wanted length where there is none.

@@ -1,13 +1,16 @@
 -- What the functions of a step compute at the three sites, on the transcript and on the three parts of the store.
 -- No public contract cites these: laws tie them to sharing's steps.
+--     or-bit                         0 for an AND gate, 1 for an OR gate
 --     on-lines                       what the line adds to three senders' bits
 --     put-four, put-twelve           delivered bits in the transcript
 --     on-part, at-sites              a part of the store with both its ends; three sites' steps
 --     add-gate, not-gate, sends, takes    XOR, NOT, and the two halves of AND and OR at the three sites
 --     put-held, held-at, put-six     three pairs stored, read, and sent at an opening
+use mathlib.Core.Bool.{cond}
 use mathlib.Core.List.{List, _++_}
 use Prim.Native.Nat.{ℕ, _+_, _*_, _-_}
 use lib.ListN.{set, take, drop}
+use lib.Dec.{eqb}
 use Rattle.sharing.specs.Ops.{Ops}
 use Rattle.sharing.specs.Steps.{later}
 use Rattle.site.specs.Mirror.{pair-at, put-at, add-at, flip-at, local-at, take-at}
@@ -15,6 +18,10 @@ use Rattle.messages.specs.Mirror.{pair-of, twelve, held, deal-at, on-line, kept
 use Rattle.messages.specs.declared.Held.{Held}
 use Rattle.messages.specs.declared.Four.{Four}
 use Rattle.messages.specs.declared.Twelve.{Twelve}
+
+-- 01: "OR: flip part 1 of both operands, AND, flip part 1 of the result"; of a kind that is AND or OR
+unfoldable pub or-bit : ℕ → ℕ
+or-bit kind = cond (eqb kind 2) 0 1
 
 -- ---- the line
 module _ (R : Ops) where

@@ -5,7 +5,7 @@ ghost use lib.ListN.{length};
 ghost use Rattle.sharing.specs.Ops.{bits};
 ghost use Rattle.site.specs.Mirror.{put-at, add-at, flip-at, local-at, take-at, two-at};
 ghost use Rattle.messages.specs.Mirror.{deal-at, line-at, on-line, kept-of, next-of, prev-of, in-pairs, on-line-six, objects-of, opened-of};
-ghost use Rattle.steps.specs.Mirror.{on-lines, put-four, put-twelve, add-gate, not-gate, sends, takes, put-held, held-at, put-six};
+ghost use Rattle.steps.specs.Mirror.{or-bit, on-lines, put-four, put-twelve, add-gate, not-gate, sends, takes, put-held, held-at, put-six};
 use messages::Four;
 use messages::Held;
 use messages::Twelve;
@@ -77,6 +77,16 @@ pub fn not_sites(store: &mut [u8], n: usize, a: usize, w: usize)
     site::flip_step(&mut store[0..2 * n], a, w, 1, 0);
     site::flip_step(&mut store[2 * n..4 * n], a, w, 0, 0);
     site::flip_step(&mut store[4 * n..6 * n], a, w, 0, 1);
+}
+
+// How document 01 has OR by AND: 0 for an AND gate, 1 for an OR gate, which flips part 1 before and after. Asked of no other kind.
+pub fn or_bit(kind: u16) -> u8
+    ensures { λ r. ⌜ r ≡ or-bit kind ⌝ }
+{
+    if kind == 2 {
+        return 0;
+    }
+    1
 }
 
 // What the three sites send at an AND (o is 0) or OR (o is 1), from their tapes at t1, t2, t3.

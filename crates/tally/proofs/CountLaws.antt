@@ -14,7 +14,7 @@ use lib.Dec.{eqb}
 use borrow.Author.Tests.{eq-eqb, ne-eqb}
 use Rattle.sharing.specs.Sites.{Site, s1, s2, s3, is}
 use Rattle.sharing.specs.Circuit.{Gate, dealing, ands, owned}
-use Rattle.scope.specs.File.{kind-at, first-at, second-at, gate-of, site-of, circuit}
+use Rattle.scope.specs.File.{gate-of, site-of, circuit}
 use Rattle.header.specs.declared.Counts.{Counts}
 use Rattle.circuit.specs.declared.Gate.{Gate as Read}
 use Rattle.circuit.specs.declared.Gate.the-variants.{Is as GateIs}
@@ -22,7 +22,8 @@ use Rattle.circuit.specs.declared.Owner.{Owner}
 use Rattle.circuit.specs.declared.Owner.the-variants.{Is as OwnerIs}
 use Rattle.header.specs.Opened.{Opened}
 use Rattle.circuit.specs.Mirror.{gate-by, owner-by}
-use Rattle.circuit.proofs.ReaderLaws.{gate-some, owner-some}
+use Rattle.circuit.proofs.CheckedLaws.{gate-is}
+use Rattle.circuit.proofs.ReaderLaws.{owner-some}
 use Rattle.faults.specs.Mirror.{deals, site-no}
 
 pub deals-law : (kind a b : ℕ) → deals kind ≡ dealing (gate-of kind a b)
@@ -35,10 +36,7 @@ deals-law (suc (suc (suc (suc n)))) a b = rw (ne-eqb (suc (suc (suc (suc n)))) 1
 
 pub gate-deals-law : (s : List ℕ) (c : Counts) (k kind a b : ℕ) (r : Read) (t : ℕ) → Opened s c → r ≡ gate-by s c k → r ≡ GateIs kind a b → k < c .gates
     → t ≡ deals kind → t ≡ dealing (circuit s .gate k)
-gate-deals-law s c k kind a b r t o e q h m =
-    let v = gate-some s c k kind a b r e q h in
-    m ∙ deals-law kind a b ∙ (λ i. dealing (gate-of (v .0 i) (v .1 i) (v .2 i)))
-    ∙ ap (λ (n : ℕ). dealing (gate-of (kind-at s n k) (first-at s n k) (second-at s n k))) (o .ins-are)
+gate-deals-law s c k kind a b r t o e q h m = m ∙ deals-law kind a b ∙ ap dealing (gate-is s c k kind a b r o e q h)
 
 -- a fact of the three sites and their numbers
 by-number : (P : Site → ℕ → Type 0) → P s1 1 → P s2 2 → P s3 3 → (a : ℕ) → P (site-of a) (site-no a)

@@ -1,8 +1,6 @@
 -- The four parts of a view, written one after the other, are the document's view.
---     own-part, got-part, out-part    how long the lent parts are
---     first-back .. fourth-back       what the buffer holds when each part is back
---     outs-are                        the opened bits, as the code writes them
---     same-long, whole                at the end: the length, and the view
+--     own-part, got-part, out-part    how long the lent parts are, each when those before it are back
+--     same-long, whole                when all are back: the length, and the view
 -- Assumes nothing.
 use mathlib.Core.Path.{_≡_, refl, sym, ap, _∙_}
 use mathlib.Core.List.{List, [], _++_}
@@ -75,44 +73,59 @@ module _ (f xs tapes : List ℕ) (s : Site) (view : List ℕ) (c : Counts) (st :
       let m : length v ≡ length view = ap length q ∙ fill-length view done l in let k = length-drop a v in
       length-take-le (b - a) (drop a v) (omega arith)
 
-  pub got-part : (v : List ℕ) → v ≡ fill view (O ++ P) → length (take (e - d) (drop d v)) ≡ e - d
-  got-part v q = let l = long2 in let p = h .1 in let r = h .2 in lent-part v (O ++ P) d e q (omega arith) p r
+  -- own inputs, then own tape, back in the buffer
+  module _ (y1 y2 : List ℕ) (e1 : y1 ≡ O) (e2 : y2 ≡ take (u - t) (drop t tapes)) where
+    abbrev v1 : List ℕ
+    v1 = take 0 view ++ (y1 ++ drop (own - 0) (drop 0 view))
 
-  pub out-part : (v : List ℕ) → v ≡ fill view (O ++ P ++ G) → length (take (length view - e) (drop e v)) ≡ c .outputs
-  out-part v q = let l = long3 in let r = h .2 in lent-part v (O ++ P ++ G) e (length view) q (omega arith) r (le-of-eq refl) ∙ L .ends
+    abbrev v2 : List ℕ
+    v2 = take own v1 ++ (y2 ++ drop (d - own) (drop own v1))
 
-  pub first-back : (y : List ℕ) → y ≡ O → take 0 view ++ (y ++ drop (own - 0) (drop 0 view)) ≡ fill view O
-  unfolding fill
-  first-back y q =
-      ap (λ (z : List ℕ). take 0 view ++ (z ++ drop (own - 0) (drop 0 view))) q
-      ∙ fill-part view [] O view 0 own refl refl (let l = lengths .0 in omega arith)
+    two-back : v2 ≡ fill view (O ++ P)
+    unfolding fill
+    two-back =
+        let tape : y2 ≡ P = e2 ∙ (λ i. take (L .upto i) (drop (L .from i) tapes)) ∙ by-base C tapes s (L .lt) in
+        let q : v1 ≡ fill view O = ap (λ (z : List ℕ). take 0 view ++ (z ++ drop (own - 0) (drop 0 view))) e1 ∙ fill-part view [] O view 0 own refl refl (let l = lengths .0 in omega arith) in
+        ap (λ (z : List ℕ). take own v1 ++ (z ++ drop (d - own) (drop own v1))) tape ∙ fill-part view O P v1 own d q (lengths .0) (lengths .1)
 
-  pub second-back : (v y : List ℕ) → v ≡ fill view O → y ≡ take (u - t) (drop t tapes) → take own v ++ (y ++ drop (d - own) (drop own v)) ≡ fill view (O ++ P)
-  second-back v y q r =
-      let tape : y ≡ P = r ∙ (λ i. take (L .upto i) (drop (L .from i) tapes)) ∙ by-base C tapes s (L .lt) in
-      ap (λ (z : List ℕ). take own v ++ (z ++ drop (d - own) (drop own v))) tape ∙ fill-part view O P v own d q (lengths .0) (lengths .1)
+    pub got-part : length (take (e - d) (drop d v2)) ≡ e - d
+    got-part = let l = long2 in let p = h .1 in let r = h .2 in lent-part v2 (O ++ P) d e two-back (omega arith) p r
 
-  pub third-back : (v y : List ℕ) → v ≡ fill view (O ++ P) → y ≡ G → take d v ++ (y ++ drop (e - d) (drop d v)) ≡ fill view (O ++ P ++ G)
-  third-back v y q r =
-      ap (λ (z : List ℕ). take d v ++ (z ++ drop (e - d) (drop d v))) r ∙ fill-part view (O ++ P) G v d e q long2 (lengths .2)
+    -- then delivered bits
+    module _ (y3 : List ℕ) (e3 : y3 ≡ G) where
+      abbrev v3 : List ℕ
+      v3 = take d v2 ++ (y3 ++ drop (e - d) (drop d v2))
 
-  pub fourth-back : (v y : List ℕ) → v ≡ fill view (O ++ P ++ G) → y ≡ W
-      → take e v ++ (y ++ drop (length view - e) (drop e v)) ≡ fill view (O ++ P ++ G ++ W)
-  fourth-back v y q r =
-      ap (λ (z : List ℕ). take e v ++ (z ++ drop (length view - e) (drop e v))) r ∙ fill-part view (O ++ P ++ G) W v e (length view) q long3 (lengths .3)
+      abbrev last : List ℕ
+      last = take (length view - e) (drop e v3)
 
-  -- the opened bits, from a clean run's store
-  pub outs-are : (part w y : List ℕ) → w ≡ store (after bits C (at-wire xs) (read C tapes) no-errors (C .gates)) → length part ≡ c .outputs
-      → y ≡ opened-all s f w (c .inputs + c .gates) part (c .outputs) → y ≡ W
-  outs-are part w y ew lp q =
-      let o = L .seeing .checked .opened in let k = o .outs-are in
-      let many : C .ins + C .gates ≡ c .inputs + c .gates = sym (λ i. o .ins-are i + o .gates-are i) in
-      q ∙ ap (opened-all s f w (c .inputs + c .gates) part) k
-      ∙ opened-are f (at-wire xs) tapes s (c .inputs + c .gates) many w ew part (C .outs) (outs-below f c (L .seeing .checked)) (omega arith)
-      ∙ fill-all part W (totals-many bits s C (at-wire xs) (read C tapes) (C .outs) ∙ sym k ∙ sym lp)
+      three-back : v3 ≡ fill view (O ++ P ++ G)
+      three-back = ap (λ (z : List ℕ). take d v2 ++ (z ++ drop (e - d) (drop d v2))) e3 ∙ fill-part view (O ++ P) G v2 d e two-back long2 (lengths .2)
 
-  pub same-long : (w : List ℕ) → w ≡ fill view (O ++ P ++ G ++ W) → length w ≡ length view
-  same-long w q = ap length q ∙ fill-length view (O ++ P ++ G ++ W) (le-of-eq long4)
+      pub out-part : length last ≡ c .outputs
+      out-part = let l = long3 in let r = h .2 in lent-part v3 (O ++ P ++ G) e (length view) three-back (omega arith) r (le-of-eq refl) ∙ L .ends
 
-  pub whole : (w : List ℕ) → w ≡ fill view (O ++ P ++ G ++ W) → w ≡ view-from bits s C (at-wire xs) tapes
-  whole w q = view-whole f xs tapes s view w (L .lt) q long4
+      -- then opened bits, from a clean run's store
+      module _ (w y4 : List ℕ) (ew : w ≡ store (after bits C (at-wire xs) (read C tapes) no-errors (C .gates)))
+          (e4 : y4 ≡ opened-all s f w (c .inputs + c .gates) last (c .outputs)) where
+        abbrev v4 : List ℕ
+        v4 = take e v3 ++ (y4 ++ drop (length view - e) (drop e v3))
+
+        outs-are : y4 ≡ W
+        outs-are =
+            let o = L .seeing .checked .opened in let k = o .outs-are in let lp = out-part in
+            let many : C .ins + C .gates ≡ c .inputs + c .gates = sym (λ i. o .ins-are i + o .gates-are i) in
+            e4 ∙ ap (opened-all s f w (c .inputs + c .gates) last) k
+            ∙ opened-are f (at-wire xs) tapes s (c .inputs + c .gates) many w ew last (C .outs) (outs-below f c (L .seeing .checked)) (omega arith)
+            ∙ fill-all last W (totals-many bits s C (at-wire xs) (read C tapes) (C .outs) ∙ sym k ∙ sym lp)
+
+        four-back : v4 ≡ fill view (O ++ P ++ G ++ W)
+        four-back =
+            ap (λ (z : List ℕ). take e v3 ++ (z ++ drop (length view - e) (drop e v3))) outs-are
+            ∙ fill-part view (O ++ P ++ G) W v3 e (length view) three-back long3 (lengths .3)
+
+        pub same-long : length v4 ≡ length view
+        same-long = ap length four-back ∙ fill-length view (O ++ P ++ G ++ W) (le-of-eq long4)
+
+        pub whole : v4 ≡ view-from bits s C (at-wire xs) tapes
+        whole = view-whole f xs tapes s view v4 (L .lt) four-back long4

@@ -1,5 +1,5 @@
 use borrow.Author.Needs.{needs}
-use Rattle.brings.proofs.StepLaws.{and-law}
+use Rattle.seen.specs.Mirror.{and-seen}
 use Rattle.brings.proofs.and_gate.Statement.{statement}
 use Rattle.brings.proofs.and_gate.Tie as tie
 
@@ -7,7 +7,8 @@ put4-requires : tie.Need-put4-requires
 put4-requires c κs = c .before .before .before .before .before .before .before .before .before .before .before .before .pre .1 .1 .del
 
 returns : tie.Need-returns
-returns c = and-law _ _ _ _ _ _ _ _ _ _ _ _ _ _ _ (c .before .before .before .before .before .before .before .before .before .before .before .after-and .ensures) (c .before .before .before .before .before .before .before .before .before .and-send .ensures) (c .before .before .before .before .before .before .before .and-take .ensures) (c .before .before .before .before .four-of-site .ensures) (c .before .before .put4 .ensures)
+unfolding and-seen
+returns c = cc
 
 pub and-gate-spec : {M : Type 1} → statement M
 and-gate-spec =

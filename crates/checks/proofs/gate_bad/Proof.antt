@@ -1,6 +1,6 @@
 use borrow.Author.Needs.{needs}
-use Rattle.circuit.proofs.ReaderLaws.{gate-none}
-use Rattle.checks.proofs.TestLaws.{gate-test}
+use Rattle.circuit.proofs.ReaderLaws.{gate-none, gate-some}
+use Rattle.faults.specs.Mirror.{bad-gate}
 use Rattle.checks.proofs.gate_bad.Statement.{statement}
 use Rattle.checks.proofs.gate_bad.Tie as tie
 
@@ -8,7 +8,8 @@ returns : tie.Need-returns
 returns c = absurd (gate-none _ _ _ _ _ _ (c .before .before .gate-with .ensures) (c .enum-told .given .1) (c .before .before .before .before .pre .1))
 
 returns-2 : tie.Need-returns-2
-returns-2 c = gate-test _ _ _ _ _ _ _ _ (c .before .before .before .before .before .gate-with .ensures) (c .before .before .before .a .given .1) (c .before .before .before .before .before .before .before .pre .1) (c .kind-bad .ensures)
+unfolding bad-gate
+returns-2 c = let v = gate-some _ _ _ _ _ _ _ (c .before .before .before .before .before .gate-with .ensures) (c .before .before .before .a .given .1) (c .before .before .before .before .before .before .before .pre .1) in rw (← v .0, ← v .1, ← v .2) (c .kind-bad .ensures)
 
 pub gate-bad-spec : {M : Type 1} → statement M
 gate-bad-spec =

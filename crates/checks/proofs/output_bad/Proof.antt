@@ -1,6 +1,6 @@
 use borrow.Author.Needs.{needs}
-use Rattle.circuit.proofs.ReaderLaws.{output-none}
-use Rattle.checks.proofs.TestLaws.{output-test}
+use Rattle.circuit.proofs.ReaderLaws.{output-none, output-some}
+use Rattle.faults.specs.Mirror.{bad-output}
 use Rattle.checks.proofs.output_bad.Statement.{statement}
 use Rattle.checks.proofs.output_bad.Tie as tie
 
@@ -8,7 +8,8 @@ returns : tie.Need-returns
 returns c = absurd (output-none _ _ _ _ _ _ (c .before .before .output-with .ensures) (c .enum-told .given .1) (c .before .before .before .before .pre .1))
 
 returns-2 : tie.Need-returns-2
-returns-2 c = output-test _ _ _ _ _ (c .before .before .before .before .output-with .ensures) (c .before .before .a .given .1) (c .before .before .before .before .before .before .pre .1)
+unfolding bad-output
+returns-2 c = rw (← output-some _ _ _ _ _ (c .before .before .before .before .output-with .ensures) (c .before .before .a .given .1) (c .before .before .before .before .before .before .pre .1))
 
 pub output-bad-spec : {M : Type 1} → statement M
 output-bad-spec =

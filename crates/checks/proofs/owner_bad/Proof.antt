@@ -1,6 +1,6 @@
 use borrow.Author.Needs.{needs}
-use Rattle.circuit.proofs.ReaderLaws.{owner-none}
-use Rattle.checks.proofs.TestLaws.{owner-test}
+use Rattle.circuit.proofs.ReaderLaws.{owner-none, owner-some}
+use Rattle.faults.specs.Mirror.{bad-owner}
 use Rattle.checks.proofs.owner_bad.Statement.{statement}
 use Rattle.checks.proofs.owner_bad.Tie as tie
 
@@ -8,7 +8,8 @@ returns : tie.Need-returns
 returns c = absurd (owner-none _ _ _ _ _ _ (c .before .before .owner-with .ensures) (c .enum-told .given .1) (c .before .before .before .before .pre .1))
 
 returns-2 : tie.Need-returns-2
-returns-2 c = owner-test _ _ _ _ _ (c .before .before .before .owner-with .ensures) (c .before .a .given .1) (c .before .before .before .before .before .pre .1)
+unfolding bad-owner
+returns-2 c = rw (← owner-some _ _ _ _ _ (c .before .before .before .owner-with .ensures) (c .before .a .given .1) (c .before .before .before .before .before .pre .1))
 
 pub owner-bad-spec : {M : Type 1} → statement M
 owner-bad-spec = tie.close (tie.spec (λ c κs. search needs) (λ c. search needs) (λ c. search needs) returns returns-2)

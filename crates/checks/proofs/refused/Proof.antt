@@ -4,11 +4,8 @@ use Rattle.checks.specs.Mirror.{refusal-of}
 use Rattle.checks.proofs.refused.Statement.{statement}
 use Rattle.checks.proofs.refused.Tie as tie
 
-returns : tie.Need-returns
-returns c = sym (ap refusal-of (c .enum-told .given .1))
-
 returns-2 : tie.Need-returns-2
 returns-2 c = sym (ap refusal-of (c .before .h .given .1))
 
 pub refused-spec : {M : Type 1} → statement M
-refused-spec = tie.close (tie.spec (λ c. search needs) (λ c. search needs) returns returns-2)
+refused-spec = tie.close (tie.spec (λ c. search needs) (λ c. search needs) (λ c. search needs) returns-2)

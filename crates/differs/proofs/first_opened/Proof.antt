@@ -14,9 +14,6 @@ abbrev μ-loop : tie.MeasureT-loop
 loop-holds : tie.Need-loop-holds Inv-loop μ-loop
 loop-holds c = (search needs, clear-none _)
 
-opened-bad-requires : tie.Need-opened-bad-requires Inv-loop μ-loop
-opened-bad-requires c κs = let p = c .before .before .before .before .pre in (p .0, c .loop-test .taken, p .1)
-
 returns : tie.Need-returns Inv-loop μ-loop
 returns c = found _ _ _ _ (c .before .before .before .loop .inv .1) (search needs) (c .before .opened-bad .ensures) (c .if1 .taken)
 
@@ -33,7 +30,7 @@ first-opened-spec =
     Inv-loop
     μ-loop
     loop-holds
-    opened-bad-requires
+    (λ c κs. search needs)
     returns
     (λ c. search needs)
     (λ c. search needs)

@@ -15,9 +15,6 @@ abbrev μ-loop : tie.MeasureT-loop
 loop-holds : tie.Need-loop-holds Inv-loop μ-loop
 loop-holds c = (search needs, clear-none _)
 
-own-bad-requires : tie.Need-own-bad-requires Inv-loop μ-loop
-own-bad-requires c κs = let p = c .before .before .before .before .before .pre in (p .0, c .loop-test .taken, p .1, p .2)
-
 returns : tie.Need-returns Inv-loop μ-loop
 returns c = found _ _ _ _ (c .before .before .before .loop .inv .1) (search needs) (c .before .own-bad .ensures) (c .if1 .taken)
 
@@ -34,7 +31,7 @@ first-own-spec =
     Inv-loop
     μ-loop
     loop-holds
-    own-bad-requires
+    (λ c κs. search needs)
     returns
     (λ c. search needs)
     (λ c. search needs)

@@ -1,7 +1,8 @@
 use borrow.Author.Needs.{needs}
 use native.Mathlib.Omega.{arith}
-use Rattle.circuit.proofs.ReaderLaws.{output-none}
-use Rattle.differs.proofs.DiffersLaws.{opened-law, opened-low}
+use Rattle.circuit.proofs.ReaderLaws.{output-none, output-some}
+use Rattle.circuit.proofs.CheckedLaws.{wire-below}
+use Rattle.differs.specs.Mirror.{opened-differs}
 use Rattle.differs.proofs.opened_bad.Statement.{statement}
 use Rattle.differs.proofs.opened_bad.Tie as tie
 
@@ -10,16 +11,17 @@ returns c = absurd (output-none _ _ _ _ _ _ (c .before .before .output-with .ens
 
 shared-slice-read-result : tie.Need-shared-slice-read-result
 shared-slice-read-result c =
-    let p = c .before .before .before .before .before .before .before .before .pre in let l = p .2 in let h = opened-low _ _ _ _ _ (c .before .before .before .before .output-with .ensures) (c .before .before .a .given .1) (p .1) (p .0) in
+    let p = c .before .before .before .before .before .before .before .before .pre in let l = p .2 in let h = wire-below _ _ _ _ _ (p .0) (c .before .before .before .before .output-with .ensures) (c .before .before .a .given .1) (p .1) in
     omega arith
 
 shared-slice-read-result-2 : tie.Need-shared-slice-read-result-2
 shared-slice-read-result-2 c =
-    let p = c .before .before .before .before .before .before .before .before .before .pre in let l = p .2 in let h = opened-low _ _ _ _ _ (c .before .before .before .before .before .output-with .ensures) (c .before .before .before .a .given .1) (p .1) (p .0) in
+    let p = c .before .before .before .before .before .before .before .before .before .pre in let l = p .2 in let h = wire-below _ _ _ _ _ (p .0) (c .before .before .before .before .before .output-with .ensures) (c .before .before .before .a .given .1) (p .1) in
     omega arith
 
 returns-2 : tie.Need-returns-2
-returns-2 c = opened-law _ _ _ _ _ (c .before .before .before .before .before .output-with .ensures) (c .before .before .before .a .given .1) (c .before .before .before .before .before .before .before .before .before .pre .1) _
+unfolding opened-differs
+returns-2 c = rw (← output-some _ _ _ _ _ (c .before .before .before .before .before .output-with .ensures) (c .before .before .before .a .given .1) (c .before .before .before .before .before .before .before .before .before .pre .1))
 
 pub opened-bad-spec : {M : Type 1} → statement M
 opened-bad-spec =

@@ -1,9 +1,10 @@
+use borrow.Author.Needs.{needs}
 use Rattle.faults.proofs.TestLaws.{kind-test}
 use Rattle.faults.proofs.kind_bad.Statement.{statement}
 use Rattle.faults.proofs.kind_bad.Tie as tie
 
 returns : tie.Need-returns
-returns c = kind-test _ _ _ _
+returns c = kind-test _ _ _ _ _ (c .second-limit .ensures)
 
 pub kind-bad-spec : {M : Type 1} → statement M
-kind-bad-spec = tie.close (tie.spec returns)
+kind-bad-spec = tie.close (tie.spec (λ c κs. search needs) returns)

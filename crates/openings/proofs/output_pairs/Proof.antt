@@ -4,7 +4,7 @@ use mathlib.Core.Path.{ap, _∙_}
 use Prim.Native.Nat.{ℕ, _+_}
 use Rattle.steps.specs.Mirror.{held-at}
 use Rattle.circuit.proofs.ReaderLaws.{output-none}
-use Rattle.openings.proofs.OpeningLaws.{wire-is, wire-below}
+use Rattle.circuit.proofs.CheckedLaws.{wire-is, wire-below}
 use Rattle.openings.proofs.output_pairs.Statement.{statement}
 use Rattle.openings.proofs.output_pairs.Tie as tie
 

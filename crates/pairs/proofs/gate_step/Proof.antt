@@ -1,7 +1,8 @@
 use borrow.Author.Needs.{needs}
 use native.Mathlib.Omega.{arith}
 use Rattle.circuit.proofs.ReaderLaws.{gate-none}
-use Rattle.engine.proofs.EngineLaws.{gate-is, gate-lower}
+use Rattle.circuit.proofs.CheckedLaws.{gate-is}
+use Rattle.engine.proofs.EngineLaws.{gate-lower}
 use Rattle.pairs.proofs.gate_step.Statement.{statement}
 use Rattle.pairs.proofs.gate_step.Tie as tie
 

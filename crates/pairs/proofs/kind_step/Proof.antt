@@ -1,7 +1,10 @@
 use borrow.Author.Needs.{needs}
-use Rattle.sharing.specs.Circuit.{dealing}
-use Rattle.engine.proofs.EngineLaws.{xor-kind, and-kind, not-kind, or-kind}
-use Rattle.pairs.specs.Mirror.{gate-on}
+use mathlib.Core.Path.{refl, sym, _∙_}
+use Prim.Native.Nat.{ℕ}
+use Rattle.sharing.specs.Circuit.{Gate}
+use Rattle.scope.specs.File.{site-of}
+use Rattle.engine.proofs.EngineLaws.{xor-kind, not-kind, and-or-kind, and-or-lower, and-or-deals}
+use Rattle.pairs.specs.Mirror.{st, and-on, gate-on}
 use Rattle.pairs.proofs.kind_step.Statement.{statement}
 use Rattle.pairs.proofs.kind_step.Tie as tie
 
@@ -14,34 +17,26 @@ returns : tie.Need-returns
 unfolding gate-on
 returns c = rw (xor-kind _ _ _ (c .before .before .before .before .if1 .taken)) (cc (c .before .before .xor-gate .ensures))
 
-and-gate-requires : tie.Need-and-gate-requires
-unfolding dealing
-and-gate-requires c κs =
-    let a = c .before .before .before .before .before .before .before .before .before .args in let p = c .before .before .before .before .before .before .before .before .before .pre in let is = and-kind (a .kind) (a .a) (a .b) (c .before .before .if2 .taken) in let h = rw is at (p .1 .0 .0) in
-    (p .0, ((h .0, h .1, p .1 .0 .1), (rw is at (p .1 .1 .0), p .1 .1 .1)))
+not-gate-requires : tie.Need-not-gate-requires
+not-gate-requires c κs =
+    let a = c .before .before .before .before .before .before .before .before .args in let p = c .before .before .before .before .before .before .before .before .pre in let is = not-kind (a .kind) (a .a) (a .b) (c .before .if2 .taken) in let h = rw is at (p .1 .0 .0) in
+    (p .0, (h .0, p .1 .0 .1))
 
 returns-2 : tie.Need-returns-2
 unfolding gate-on
-returns-2 c = rw (and-kind _ _ _ (c .before .before .before .before .before .before .before .if2 .taken)) (c .before .before .before .before .and-gate .ensures)
+returns-2 c = rw (not-kind _ _ _ (c .before .before .before .before .if2 .taken)) (cc (c .before .before .not-gate .ensures))
 
-not-gate-requires : tie.Need-not-gate-requires
-not-gate-requires c κs =
-    let a = c .before .before .before .before .before .before .before .before .before .args in let p = c .before .before .before .before .before .before .before .before .before .pre in let is = not-kind (a .kind) (a .a) (a .b) (c .before .if3 .taken) in let h = rw is at (p .1 .0 .0) in
-    (p .0, (h .0, p .1 .0 .1))
+and-gate-requires : tie.Need-and-gate-requires
+and-gate-requires c κs =
+    let a = c .before .before .before .before .before .before .before .before .before .before .args in let p = c .before .before .before .before .before .before .before .before .before .before .pre in
+    let x = c .before .before .before .before .if1 .left in let y = c .before .before .before .if2 .left in let h = and-or-lower (a .kind) (a .a) (a .b) (a .w) x y (p .1 .0 .0) in
+    (p .0, ((h .0, h .1, p .1 .0 .1), (rw (and-or-deals (a .kind) (a .a) (a .b) x y) at (p .1 .1 .0), p .1 .1 .1)))
 
 returns-3 : tie.Need-returns-3
 unfolding gate-on
-returns-3 c = rw (not-kind _ _ _ (c .before .before .before .before .if3 .taken)) (cc (c .before .before .not-gate .ensures))
-
-and-gate-requires-2 : tie.Need-and-gate-requires-2
-unfolding dealing
-and-gate-requires-2 c κs =
-    let a = c .before .before .before .before .before .before .before .before .before .before .args in let p = c .before .before .before .before .before .before .before .before .before .before .pre in let is = or-kind (a .kind) (a .a) (a .b) (c .before .before .before .before .if1 .left) (c .before .before .before .if2 .left) (c .before .before .if3 .left) in let h = rw is at (p .1 .0 .0) in
-    (p .0, ((h .0, h .1, p .1 .0 .1), (rw is at (p .1 .1 .0), p .1 .1 .1)))
-
-returns-4 : tie.Need-returns-4
-unfolding gate-on
-returns-4 c = rw (or-kind _ _ _ (c .before .before .before .before .before .before .before .before .before .if1 .left) (c .before .before .before .before .before .before .before .before .if2 .left) (c .before .before .before .before .before .before .before .if3 .left)) (c .before .before .before .before .and-gate2 .ensures)
+returns-3 c =
+    let a = c .before .before .before .before .before .before .before .before .before .before .before .before .before .before .before .args in let x = st (a .room .now) (a .moved .now) (a .at) in
+    (c .before .before .before .before .and-gate .ensures) ∙ sym (and-or-kind (λ (g : Gate). gate-on (site-of (a .site)) (a .own .now) (a .next .now) (a .prev .now) (a .n) (a .w) g x) (λ (o : ℕ). and-on (site-of (a .site)) (a .own .now) (a .next .now) (a .prev .now) (a .n) (a .a) (a .b) (a .w) o x) (a .kind) (a .a) (a .b) _ (c .before .before .before .before .before .before .before .before .before .if1 .left) (c .before .before .before .before .before .before .before .before .if2 .left) (c .before .before .before .before .before .before .before .or-bit .ensures) refl refl)
 
 pub kind-step-spec : {M : Type 1} → statement M
 kind-step-spec =
@@ -50,14 +45,11 @@ kind-step-spec =
     xor-gate-requires
     (λ c. search needs)
     returns
+    not-gate-requires
+    (λ c. search needs)
+    returns-2
+    (λ c κs. search needs)
     and-gate-requires
     (λ c. search needs)
     (λ c. search needs)
-    returns-2
-    not-gate-requires
-    (λ c. search needs)
-    returns-3
-    and-gate-requires-2
-    (λ c. search needs)
-    (λ c. search needs)
-    returns-4)
+    returns-3)

@@ -17,11 +17,6 @@ abbrev μ-loop : tie.MeasureT-loop
 loop-holds : tie.Need-loop-holds Inv-loop μ-loop
 loop-holds c = (search needs, none-yet _ _, refl)
 
-gate-step-requires : tie.Need-gate-step-requires Inv-loop μ-loop
-gate-step-requires c κs =
-    let p = c .before .before .before .before .before .pre in
-    ((p .0, c .before .loop-test .taken), c .before .before .loop .inv .2 ∙ p .1)
-
 loop-again : tie.Need-loop-again Inv-loop μ-loop
 loop-again c =
     let l = c .before .before .before .before .before .loop in let r = c .before .before .gate-step in
@@ -33,4 +28,4 @@ returns c = let l = c .before .loop .inv in at-end (up-to _ _) _ _ _ (l .1) (l .
 pub gates-pass-spec : {M : Type 1} → statement M
 gates-pass-spec =
     tie.close
-    (tie.spec Inv-loop μ-loop loop-holds gate-step-requires (λ c. search needs) (λ c. search needs) loop-again (λ c. search needs) returns)
+    (tie.spec Inv-loop μ-loop loop-holds (λ c κs. search needs) (λ c. search needs) (λ c. search needs) loop-again (λ c. search needs) returns)

@@ -1,7 +1,6 @@
 use borrow.Author.Needs.{needs}
 use mathlib.Core.Path.{_≡_, refl, _∙_}
 use Prim.Native.Nat.{_-_, _≤_}
-use native.Mathlib.Omega.{arith}
 use lib.ListN.{length}
 use Rattle.circuit.specs.Loop.{up-to}
 use Rattle.circuit.proofs.LoopLaws.{none-yet, turn, at-end}
@@ -18,11 +17,6 @@ abbrev μ-loop : tie.MeasureT-loop
 loop-holds : tie.Need-loop-holds Inv-loop μ-loop
 loop-holds c = (search needs, none-yet _ _, refl)
 
-input-step-requires : tie.Need-input-step-requires Inv-loop μ-loop
-input-step-requires c κs =
-    let p = c .before .before .before .before .before .pre in let t = c .before .loop-test .taken in let l = c .before .before .loop .inv .2 in
-    (t, omega arith)
-
 loop-again : tie.Need-loop-again Inv-loop μ-loop
 loop-again c =
     let l = c .before .before .before .before .before .loop in let r = c .before .before .input-step in
@@ -34,4 +28,4 @@ returns c = let l = c .before .loop .inv in at-end (up-to _ _) _ _ _ (l .1) (l .
 pub inputs-pass-spec : {M : Type 1} → statement M
 inputs-pass-spec =
     tie.close
-    (tie.spec Inv-loop μ-loop loop-holds input-step-requires (λ c. search needs) (λ c. search needs) loop-again (λ c. search needs) returns)
+    (tie.spec Inv-loop μ-loop loop-holds (λ c κs. search needs) (λ c. search needs) (λ c. search needs) loop-again (λ c. search needs) returns)

@@ -1,3 +1,4 @@
+-- Four ways out behind three calls. No lemma is lacking: a need cites one law, and its length is the places of its facts.
 use borrow.Author.Needs.{needs}
 use native.Mathlib.Omega.{arith}
 use Rattle.slices.proofs.BitsLaws.{bits-long}

@@ -1,5 +1,6 @@
 -- `reader_on` meets its contract: a walk of its MIR, by hand. A `Reader` is made of the slice passed and the fields of the counts, in the result's local.
 -- A `&[u8]` is Copy, so what it owns is had twice: once for file at exit, and once inside the result. Assumes nothing.
+-- It is one walk from the first statement to the last, and no other function makes a `Reader`: there is nothing that a lemma would share.
 use mathlib.Core.Path.{refl}
 use Prim.Native.Nat.{ℕ}
 use mathlib.Core.List.{List, [], _∷_}

@@ -1,7 +1,6 @@
 use borrow.Author.Needs.{needs}
 use native.Mathlib.Omega.{arith}
 use Rattle.circuit.proofs.ReaderLaws.{owner-none, owner-some}
-use Rattle.seen.proofs.StepLaws.{own-seen, own-bound}
 use Rattle.seen.proofs.input_at.Statement.{statement}
 use Rattle.seen.proofs.input_at.Tie as tie
 
@@ -13,11 +12,11 @@ input-step-requires c κs = let p = c .before .before .before .before .before .b
     let o = p .0 .0 .opened in let f = o .few-inputs in let g = o .few-gates in
     let is = owner-some _ _ _ _ _ (c .before .before .before .before .before .owner-with .ensures) (c .before .before .before .r .given .1) (p .0 .1) in
     let w = c .before .before .before .before .before .before .input-owned .ensures in
-    ((p .1 .0, omega arith, omega (arith, p .0 .1)), (p .1 .1 .0, own-bound _ _ _ _ _ _ _ _ is (w .0) (w .1) (p .1 .1 .1)))
+    ((p .1 .0, omega arith, omega (arith, p .0 .1)), (p .1 .1 .0, (let h = rw (← w .0, ← is) at (p .1 .1 .1) in (h .0, h .1, w .1))))
 
 returns-2 : tie.Need-returns-2
 returns-2 c = let p = c .before .before .before .before .before .before .before .before .before .before .before .before .before .before .before .before .before .before .before .pre in
-    own-seen _ _ _ _ _ _ _ _ _ _ _ (owner-some _ _ _ _ _ (c .before .before .before .before .before .before .before .before .before .before .owner-with .ensures) (c .before .before .before .before .before .before .before .before .r .given .1) (p .0 .1)) (c .before .before .before .before .before .before .before .before .before .before .before .input-owned .ensures .0) (c .before .before .before .before .input-step .ensures)
+    rw (← c .before .before .before .before .before .before .before .before .before .before .before .input-owned .ensures .0, ← owner-some _ _ _ _ _ (c .before .before .before .before .before .before .before .before .before .before .owner-with .ensures) (c .before .before .before .before .before .before .before .before .r .given .1) (p .0 .1)) (c .before .before .before .before .input-step .ensures)
 
 pub input-at-spec : {M : Type 1} → statement M
 input-at-spec =

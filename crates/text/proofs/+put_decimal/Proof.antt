@@ -1,3 +1,4 @@
+-- A function that calls itself: each need is stated with the measure, which is the toolchain's form, and proved in a line.
 use borrow.Author.Needs.{needs}
 use native.Mathlib.Omega.{arith}
 use Rattle.text.proofs.DigitLaws.{one-digit, more-digits, put-small, put-more}

@@ -1,3 +1,4 @@
+-- Three owners, each with its own deal and its own way out. No lemma is lacking: a need cites one law, and its length is the places of its facts.
 use borrow.Author.Needs.{needs}
 use native.Mathlib.Omega.{arith}
 use Rattle.walk.proofs.StepLaws.{owned-yes, owned-no, fits-own, fits-next, fits-prev, input-own, input-next, input-prev}

@@ -1,3 +1,4 @@
+-- No lemma is lacking: a need of this loop cites one law, and its length is the places of its facts.
 use borrow.Author.Needs.{needs}
 use mathlib.Core.Path.{_≡_, refl, _∙_}
 use Prim.Native.Nat.{_-_, _+_, _*_, _≤_}

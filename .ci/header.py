@@ -1,0 +1,246 @@
+"""Holds include/bakebutton.h to the Rattle sources.
+
+- Every exported function of crates/panel is declared, with the parameters and the result that its own text has, and no other is.
+- Every struct that goes out (crates/told, #[repr(C)]) has the same members, of the same types, in the same order.
+- Good, abort, the refusals' numbers, the order of checks and what each call checks are those of crates/scope/specs.
+- Limits, kinds, the job's and the text's lengths are those of the code that tests them.
+- Each length's macro gives what told::sizes_from and the header's own check compute, and each _MAX what the largest circuit needs.
+"""
+
+import pathlib
+import re
+import sys
+
+ROOT = pathlib.Path(__file__).resolve().parent.parent
+HEADER = (ROOT / "include" / "bakebutton.h").read_text()
+NUMBERS = {"usize": "size_t", "u8": "uint8_t", "u16": "uint16_t", "u32": "uint32_t"}
+TABLE = "uint32_t bits[3][3]"  # the same nine numbers as [u32; 9], row after row
+
+
+def source(path):
+    return (ROOT / path).read_text()
+
+
+def snake(name):
+    return "bakebutton_" + re.sub(r"(?<!^)([A-Z])", r"_\1", name).lower()
+
+
+def flat(text):
+    return re.sub(r"\s+", " ", text).strip()
+
+
+# What the sources say.
+
+def prototypes():
+    """Each exported function as C declares it."""
+    for found in re.finditer(r'pub extern "C" fn (\w+)\(([^)]*)\) -> (\w+)', source("crates/panel/src/lib.rt")):
+        name, parameters, result = found.groups()
+        words = []
+        for parameter in filter(None, map(str.strip, parameters.split(","))):
+            which, kind = map(str.strip, parameter.split(":"))
+            if kind == "&[u8]":
+                words += [f"const uint8_t *{which}", f"size_t {which}_length"]
+            elif kind == "&mut [u8]":
+                words += [f"uint8_t *{which}", f"size_t {which}_length"]
+            else:
+                words.append(f"{NUMBERS[kind]} {which}")
+        out = NUMBERS[result] if result in NUMBERS else "struct " + snake(result)
+        yield name, f"{out} {name}({', '.join(words) or 'void'}) BAKEBUTTON_LOOK;"
+
+
+def structs():
+    """Each struct that goes out as C declares it."""
+    for name, body in re.findall(r"#\[repr\(C\)\]\npub struct (\w+) \{([^}]*)\}", source("crates/told/src/lib.rt")):
+        members = []
+        for which, kind in re.findall(r"pub (\w+): ([^,]+),", body):
+            array = re.fullmatch(r"\[(\w+); (\d+)\]", kind)
+            if array and which == "bits":
+                members.append(TABLE if array.groups() == ("u32", "9") else "unfit")
+            elif array:
+                members.append(f"{NUMBERS[array.group(1)]} {which}[{array.group(2)}]")
+            else:
+                members.append(f"{NUMBERS[kind]} {which}")
+        yield snake(name), members
+
+
+def list_of(text):
+    return [int(number) for number in re.findall(r"\d+", text)]
+
+
+def orders():
+    """Each call's checks in their order, by the call's name in Calls.antt."""
+    text = source("crates/scope/specs/Calls.antt")
+    fixed = list_of(re.search(r"^fixed-order = (.*)$", text, re.M).group(1))
+    concerns = {name: list_of(numbers) for name, numbers in re.findall(r"^concerns \((\w+)[^)]*\) = (.*)$", text, re.M)}
+    return fixed, {name: [n for n in fixed if n in numbers] for name, numbers in concerns.items()}
+
+
+CALLS = {"open": "Open", "gate": "GateAt", "owner": "OwnerAt", "output": "OutputAt", "check": "Check", "sizes": "Check",
+         "traffic": "Traffic", "plain": "Plain", "run": "Run", "view": "View", "retape": "Retape", "listing": "Listing"}
+
+
+def lengths():
+    """What sizes_from computes, by member, as functions of i, g, o, a and the sites' own inputs."""
+    body = re.search(r"pub fn sizes_from\(.*?\n\{\n(.*?)\n\}\n", source("crates/told/src/lib.rt"), re.S).group(1)
+    names = dict(re.findall(r"let (\w+) = ([^;]*);", body))
+    literal = re.search(r"SizesAnswer \{(.*)\}", body, re.S).group(1)
+    view = re.search(r"view: \[\s*([^,]*),", literal).group(1)
+    members = dict(re.findall(r"^\s*(\w+): ([^,\[]*),$", literal, re.M))
+    members["line"] = "line"
+    members["view"] = view
+
+    def value(text, i, g, o, a, own):
+        text = text.replace("c.inputs", str(i)).replace("c.gates", str(g)).replace("c.outputs", str(o))
+        known = {"a": a, "s1": own}
+        while True:
+            words = set(re.findall(r"[a-z]\w*", text)) - set(known)
+            if not words:
+                return eval(text, {}, known)
+            for word in words:
+                text = re.sub(rf"\b{word}\b", f"({names[word]})", text)
+            text = text.replace("c.inputs", str(i)).replace("c.gates", str(g)).replace("c.outputs", str(o))
+
+    return {name: lambda *numbers, text=text: value(text, *numbers) for name, text in members.items()}
+
+
+# What the header says.
+
+def defined(name):
+    found = re.search(rf"^#define BAKEBUTTON_{name} (\d+)(?: /\*.*\*/)?$", HEADER, re.M)
+    return int(found.group(1)) if found else None
+
+
+def macro(name, **numbers):
+    found = re.search(rf"^#define BAKEBUTTON_{name}\(([^)]*)\) (.*)$", HEADER, re.M)
+    parameters, text = found.groups()
+    text = text.replace("(size_t)", "")
+    other = re.fullmatch(r"BAKEBUTTON_(\w+)\([^)]*\)", text)
+    if other:
+        return macro(other.group(1), **numbers)
+    return eval(text, {}, {name.strip(): numbers[name.strip()] for name in parameters.split(",")})
+
+
+def comment_before(declaration):
+    """The comment right before a declaration."""
+    head = HEADER[:HEADER.index(declaration)]
+    return flat(head[head.rindex("/*"):])
+
+
+def problems():
+    declared = {}
+    for text in re.findall(r"^[a-z][\w ]*bakebutton_\w+\([^;{]*;", HEADER, re.M):
+        declared[re.search(r"(bakebutton_\w+)\(", text).group(1)] = text
+    wanted = dict(prototypes())
+    for name in sorted(set(declared) ^ set(wanted)):
+        yield f"{name} is declared or exported, not both"
+    for name in sorted(set(declared) & set(wanted)):
+        if flat(declared[name]) != wanted[name]:
+            yield f"{name} should be declared: {wanted[name]}"
+
+    found = {name: [flat(member) for member in body.strip().rstrip(";").split(";")]
+             for name, body in re.findall(r"^struct (\w+) \{([^}]*)\};", HEADER, re.M)}
+    given = dict(structs())
+    for name in sorted(set(found) | set(given)):
+        if found.get(name) != given.get(name):
+            yield f"struct {name} is {found.get(name)}, and goes out as {given.get(name)}"
+
+    answers = source("crates/scope/specs/Answer.antt")
+    for case, name in (("good vs", "GOOD"), ("abort o m", "ABORT")):
+        number = int(re.search(rf"^number-of \({case}\) = (\d+)$", answers, re.M).group(1))
+        if defined(name) != number:
+            yield f"BAKEBUTTON_{name} is not {number}"
+
+    rows = re.search(r"^refusal-table g =\n(.*?)\n\n", source("crates/scope/specs/Checks.antt"), re.S | re.M).group(1)
+    count = len(re.findall(r"^\s*∷ (?!\[\])", rows, re.M))
+    numbers = [int(n) for n in re.findall(r"^#define BAKEBUTTON_REFUSED_\w+ (\d+)$", HEADER, re.M)]
+    if numbers != list(range(1, count + 1)):
+        yield f"the refusals' numbers are {numbers}, and the table has {count} rows"
+    table = {int(n): flat(text) for n, text in re.findall(r"^ \*\s+(\d+)   (\w.*)$", HEADER, re.M)}
+    if list(table) != numbers:
+        yield f"the comment's table of refusals has {list(table)}"
+    for row, number in (("row-short", 1), ("row-large", 2), ("row-field", 3), ("row-site", 11), ("row-job", 14)):
+        body = re.search(rf"^{row} g =(.*?)\n\n", source("crates/scope/specs/Checks.antt"), re.S | re.M).group(1)
+        places = re.findall(r"[(∷] ?\((\d+), not", body)
+        said = (", ".join(places[:-1]) + " or " if places[1:] else "") + places[-1]
+        if not re.search(rf"(?:^|\s){said}$", table[number]):
+            yield f"the places of {number} are {said}"
+    for name, numbers_of in (("number 0, BAKEBUTTON_GOOD ", "GOOD"), ("number 100, BAKEBUTTON_ABORT ", "ABORT")):
+        if HEADER.count(name) != 1 or list_of(name)[0] != defined(numbers_of):
+            yield f"the comment on answers does not say {name.strip()}"
+    if HEADER.count(f"number 1 to {count} ") != 1:
+        yield f"the comment on answers does not say that refusals are 1 to {count}"
+    weights = [int(n) for n in re.findall(r"unlike\(g\.[^)]*, (\d)\)", source("crates/messages/src/lib.rt"))]
+    shift = re.search(r"^#define BAKEBUTTON_SITE_WEIGHT\(site\) \(1u << \(\(site\) - 1\)\)$", HEADER, re.M)
+    if weights != [1, 2, 4] or not shift or HEADER.count("a sum of 1, 2 and 4 for sites 1, 2 and 3") != 1:
+        yield f"the sites' weights are {weights}"
+
+    fixed, order = orders()
+    line = re.search(r"ORDER OF CHECKS, the same for every call: ([\d, ]*),", HEADER).group(1)
+    if list_of(line) != fixed:
+        yield f"the order of checks is {fixed}"
+    for name, call in CALLS.items():
+        want = order[call] + ([10] if name == "listing" else [])
+        text = comment_before(declared["bakebutton_" + name].split("(")[0] + "(")
+        said = re.search(r"Checks ((?:\d+, )*\d+)(?:; then (\d+) with place)?", text.replace(" *", ""))
+        have = list_of(said.group(1)) + ([int(said.group(2))] if said.group(2) else [])
+        if have != want:
+            yield f"the comment on bakebutton_{name} says checks {have}, which are {want}"
+        lent = re.findall(r"(?<!const )uint8_t \*(\w+)", declared["bakebutton_" + name])
+        buffers = re.search(r"Lent: (.*?)(?:\.|;) ", re.sub(r" ?\([^)]*\)", "", text.replace(" *", "")))
+        listed = re.findall(r"(\d) (\w+)", buffers.group(1)) if buffers else []
+        if [(str(k), which) for k, which in enumerate(lent)] != listed:
+            yield f"the comment on bakebutton_{name} does not say that lent are {lent}"
+
+    large = [int(n) for n in re.findall(r"if [igo] > (\d+)", source("crates/limits/src/lib.rt"))]
+    if [defined("INPUTS_MAX"), defined("GATES_MAX"), defined("OUTPUTS_MAX")] != large:
+        yield f"the limits are {large}"
+    if flat(HEADER).count("({:,}; {:,}; {:,})".format(*large)) != 1:
+        yield "the comment's table has other limits"
+    kinds = {kind: pattern.count("suc") for pattern, kind in re.findall(r"^gate-of (\(suc.*\)|zero) a b = (\w+)", source("crates/scope/specs/File.antt"), re.M)}
+    for kind, number in kinds.items():
+        if defined(kind) != number:
+            yield f"{kind} is kind {number}"
+    job = int(re.search(r"if n > (\d+)", source("crates/faults/src/lib.rt")).group(1))
+    if defined("JOB_BYTES_MAX") != job:
+        yield f"a job has at most {job} bytes"
+    text_bytes = int(re.search(r"fn bakebutton_text_bytes.*?\{\n\s*(\d+)\n", source("crates/panel/src/lib.rt"), re.S).group(1))
+    if defined("TEXT_BYTES") != text_bytes:
+        yield f"a listing is lent {text_bytes} bytes"
+
+    size = lengths()
+    own_names = {"inputs": "INPUTS", "tapes": "TAPES", "line": "LINE", "values": "VALUES", "outputs": "OPENED",
+                 "transcript": "TRANSCRIPT", "store": "STORE", "view": "VIEW", "room": "ROOM"}
+    members = [member.split()[1].split("[")[0] for member in given["bakebutton_sizes_answer"]][2:]
+    if members != list(own_names):
+        yield f"the lengths are of {members}"
+    tries = [(i, g, o, a, own) for i in (0, 1, 7, large[0]) for g in (0, 1, 5, large[1]) for o in (0, 1, 3, large[2])
+             for a in {0, g // 2, g} for own in {0, i // 3, i}]
+    for member, name in own_names.items():
+        for i, g, o, a, own in tries:
+            have = macro(name + "_BYTES", inputs=i, gates=g, outputs=o, ands=a, own=own)
+            if have != size[member](i, g, o, a, own):
+                yield f"BAKEBUTTON_{name}_BYTES is {have} for {(i, g, o, a, own)}"
+                break
+        most = size[member](large[0], large[1], large[2], large[1], large[0])
+        if defined(name + "_BYTES_MAX") != most:
+            yield f"BAKEBUTTON_{name}_BYTES_MAX is not {most}"
+    whole = re.search(r"if n != (.*) \{", source("crates/header/src/lib.rt")).group(1)
+    for i, g, o, _, _ in tries:
+        if macro("FILE_BYTES", inputs=i, gates=g, outputs=o) != eval(whole, {}, {"i": i, "g": g, "o": o}):
+            yield f"BAKEBUTTON_FILE_BYTES is wrong for {(i, g, o)}"
+            break
+    if defined("FILE_BYTES_MAX") != eval(whole, {}, dict(zip("igo", large))):
+        yield "BAKEBUTTON_FILE_BYTES_MAX is wrong"
+
+
+def main():
+    found = list(problems())
+    for problem in found:
+        print("include/bakebutton.h: " + problem)
+    if found:
+        sys.exit(1)
+    print("header ok")
+
+
+if __name__ == "__main__":
+    main()

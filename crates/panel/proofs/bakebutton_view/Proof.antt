@@ -1,0 +1,17 @@
+use borrow.Author.Needs.{needs}
+use Rattle.told.proofs.Apart.{tells-by}
+use Rattle.panel.proofs.bakebutton_view.Statement.{statement}
+use Rattle.panel.proofs.bakebutton_view.Tie as tie
+
+returns : tie.Need-returns
+returns c = tells-by _ _ _ (c .done-told .ensures) (c .before .before .before .before .before .view-of .ensures)
+
+pub bakebutton-view-spec : {M : Type 1} → statement M
+bakebutton-view-spec =
+    tie.close
+    (tie.spec
+    (λ c κs. search needs)
+    (λ c κs. search needs)
+    (λ c. search needs)
+    (λ c. search needs)
+    returns)

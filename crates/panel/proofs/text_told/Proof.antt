@@ -1,0 +1,19 @@
+use borrow.Author.Needs.{needs}
+use mathlib.Core.Path.{sym, ap}
+use Rattle.listing.specs.declared.Listed.{Listed}
+use Rattle.scope.specs.Answer.{number-of}
+use Rattle.listing.specs.Answers.{listed-answer, text-length}
+use Rattle.told.specs.Told.{place-of, text-told}
+use Rattle.panel.proofs.text_told.Statement.{statement}
+use Rattle.panel.proofs.text_told.Tie as tie
+
+returns : tie.Need-returns
+unfolding number-of place-of listed-answer text-length
+returns c = sym (ap (λ (x : Listed). text-told (listed-answer x) (text-length x)) (c .before .a .given .1))
+
+returns-2 : tie.Need-returns-2
+unfolding number-of place-of listed-answer text-length
+returns-2 c = sym (ap (λ (x : Listed). text-told (listed-answer x) (text-length x)) (c .before .a2 .given .1))
+
+pub text-told-spec : {M : Type 1} → statement M
+text-told-spec = tie.close (tie.spec (λ c. search needs) (λ c. search needs) returns returns-2)

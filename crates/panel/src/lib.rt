@@ -1,0 +1,257 @@
+// The panel's door: every public call as a function that C can call, and include/bakebutton.h declares. A slice is a pointer and a length
+// there; an answer is a struct of numbers, by value: 0 good, 100 abort with output and sites, else a refusal's number and place.
+ghost use mathlib.Core.Path.{_≡_};
+ghost use mathlib.Core.List.{[], _∷_};
+ghost use Prim.Native.Nat.{_≤_};
+ghost use lib.ListN.{length, take};
+ghost use Rattle.sharing.specs.Store.{fill};
+ghost use Rattle.scope.specs.File.{circuit};
+ghost use Rattle.scope.specs.Calls.{Open, GateAt, OwnerAt, OutputAt, Check, Plain, Run, View, Retape, Traffic, Listing, does};
+ghost use Rattle.header.specs.Opened.{Opened};
+ghost use Rattle.checks.specs.Answers.{done-answer};
+ghost use Rattle.run.specs.Answers.{run-answer};
+ghost use Rattle.listing.specs.Answers.{listed-answer, text-length};
+ghost use Rattle.told.specs.Told.{told, Tells, told-counts, told-gate, told-owner, told-output, told-traffic, text-told, unfit, told-listing, text-left};
+ghost use Rattle.told.specs.Sizes.{sizes-of, sized};
+use checks::Done;
+use header::Counts;
+use header::Header;
+use listing::Listed;
+use run::Ran;
+use told::Answer;
+use told::CountsAnswer;
+use told::GateAnswer;
+use told::ListingAnswer;
+use told::OutputAnswer;
+use told::OwnerAnswer;
+use told::SizesAnswer;
+use told::TrafficAnswer;
+
+// Each call's enum, as numbers.
+fn done_told(a: Done) -> Answer
+    ensures { λ r. ⌜ r ≡ told (done-answer a) ⌝ }
+{
+    match a {
+        Done::Good => told::good_told(),
+        Done::Refused(number, place) => told::refused_told(number, place),
+    }
+}
+
+fn run_told(a: Ran) -> Answer
+    ensures { λ r. ⌜ r ≡ told (run-answer a) ⌝ }
+{
+    match a {
+        Ran::Good => told::good_told(),
+        Ran::Abort(output, sites) => told::abort_told(output, sites),
+        Ran::Refused(number, place) => told::refused_told(number, place),
+    }
+}
+
+// The lengths for a circuit that was checked.
+fn sizes(file: &[u8], c: Counts) -> SizesAnswer
+    requires { ⌜ Opened (now file) c ⌝ }
+    ensures { λ r. ⌜ r ≡ sizes-of (circuit (now (file .entry))) ⌝ }
+{
+    let a = tally::count_ands(file, c);
+    let s1 = tally::count_owned(file, c, 1);
+    let s2 = tally::count_owned(file, c, 2);
+    let s3 = tally::count_owned(file, c, 3);
+    told::sizes_from(c, a, s1, s2, s3)
+}
+
+// A listing's answer with the length of its text; where the lent buffer is not of its length, there is none.
+fn text_told(a: Listed) -> ListingAnswer
+    ensures { λ r. ⌜ r ≡ text-told (listed-answer a) (text-length a) ⌝ }
+{
+    match a {
+        Listed::Good(length) => ListingAnswer {
+            number: 0,
+            place: 0,
+            length,
+        },
+        Listed::Refused(number, place, length) => ListingAnswer {
+            number,
+            place,
+            length,
+        },
+    }
+}
+
+fn text_unfit(a: Listed) -> ListingAnswer
+    ensures { λ r. ⌜ r ≡ unfit (listed-answer a) ⌝ }
+{
+    match a {
+        Listed::Good(_) => ListingAnswer {
+            number: 10,
+            place: 0,
+            length: 0,
+        },
+        Listed::Refused(number, place, _) => ListingAnswer {
+            number,
+            place,
+            length: 0,
+        },
+    }
+}
+
+fn put_room(room: &[u8; 2624], n: usize, text: &mut [u8])
+    requires { ⌜ (n ≤ length (now room)) × (length (now text) ≡ 2624) ⌝ }
+    ensures { λ _. ⌜ now (text .exit) ≡ fill (now (text .entry)) (take n (now (room .entry))) ⌝ }
+{
+    told::put_text(room, n, text);
+}
+
+// PUBLIC. The reader is opened: checks 1 to 3, and the counts.
+#[no_mangle]
+pub extern "C" fn bakebutton_open(file: &[u8]) -> CountsAnswer
+    ensures { λ r. ⌜ r ≡ told-counts (does (Open (now (file .entry))) .answer) ⌝ }
+{
+    let h = header::open_file(file);
+    told::header_told(h)
+}
+
+// PUBLIC. Gate k of a file.
+#[no_mangle]
+pub extern "C" fn bakebutton_gate(file: &[u8], k: usize) -> GateAnswer
+    ensures { λ r. ⌜ r ≡ told-gate (does (GateAt (now (file .entry)) k) .answer) ⌝ }
+{
+    let a = reader::gate_of(file, k);
+    told::gate_told(a)
+}
+
+// PUBLIC. The owner of input k of a file.
+#[no_mangle]
+pub extern "C" fn bakebutton_owner(file: &[u8], k: usize) -> OwnerAnswer
+    ensures { λ r. ⌜ r ≡ told-owner (does (OwnerAt (now (file .entry)) k) .answer) ⌝ }
+{
+    let a = reader::owner_of(file, k);
+    told::owner_told(a)
+}
+
+// PUBLIC. The wire of output k of a file.
+#[no_mangle]
+pub extern "C" fn bakebutton_output(file: &[u8], k: usize) -> OutputAnswer
+    ensures { λ r. ⌜ r ≡ told-output (does (OutputAt (now (file .entry)) k) .answer) ⌝ }
+{
+    let a = reader::output_of(file, k);
+    told::output_told(a)
+}
+
+// PUBLIC. The whole circuit: checks 1 to 6, and the counts.
+#[no_mangle]
+pub extern "C" fn bakebutton_check(file: &[u8]) -> CountsAnswer
+    ensures { λ r. ⌜ r ≡ told-counts (does (Check (now (file .entry))) .answer) ⌝ }
+{
+    let h = checks::check_file(file);
+    told::header_told(h)
+}
+
+// PUBLIC. The lengths of all slices and buffers that go with a circuit: checks 1 to 6, and what the calls' own checks ask for.
+#[no_mangle]
+pub extern "C" fn bakebutton_sizes(file: &[u8]) -> SizesAnswer
+    ensures { λ r. ⌜ r ≡ sized (now (file .entry)) (does (Check (now (file .entry))) .answer) ⌝ }
+{
+    let h = checks::check_file(file);
+    match h {
+        Header::Good(c) => sizes(file, c),
+        Header::Refused(number, place) => told::no_sizes(number, place),
+    }
+}
+
+// PUBLIC. The plain values of all wires.
+#[no_mangle]
+pub extern "C" fn bakebutton_plain(file: &[u8], inputs: &[u8], values: &mut [u8]) -> Answer
+    ensures { λ r. ⌜ Tells r (now (values .exit) ∷ []) (Plain (now (file .entry)) (now (inputs .entry)) (now (values .entry))) ⌝ }
+{
+    let a = plain::plain_values(file, inputs, values);
+    done_told(a)
+}
+
+// PUBLIC. The run of the three sites on a line.
+#[no_mangle]
+pub extern "C" fn bakebutton_run(
+    file: &[u8],
+    inputs: &[u8],
+    tapes: &[u8],
+    line: &[u8],
+    outputs: &mut [u8],
+    transcript: &mut [u8],
+    store: &mut [u8],
+) -> Answer
+    ensures { λ r. ⌜ Tells r (now (outputs .exit) ∷ now (transcript .exit) ∷ now (store .exit) ∷ []) (Run (now (file .entry)) (now (inputs .entry)) (now (tapes .entry)) (now (line .entry)) (now (outputs .entry)) (now (transcript .entry)) (now (store .entry))) ⌝ }
+{
+    let a = run::run(file, inputs, tapes, line, outputs, transcript, store);
+    run_told(a)
+}
+
+// PUBLIC. What a site sees of a run on a clean line.
+#[no_mangle]
+pub extern "C" fn bakebutton_view(
+    file: &[u8],
+    inputs: &[u8],
+    tapes: &[u8],
+    site: usize,
+    view: &mut [u8],
+    store: &mut [u8],
+) -> Answer
+    ensures { λ r. ⌜ Tells r (now (view .exit) ∷ now (store .exit) ∷ []) (View (now (file .entry)) (now (inputs .entry)) (now (tapes .entry)) site (now (view .entry)) (now (store .entry))) ⌝ }
+{
+    let a = view::view_of(file, inputs, tapes, site, view, store);
+    done_told(a)
+}
+
+// PUBLIC. Re-taping: the tapes that explain a site's view by other inputs.
+#[no_mangle]
+pub extern "C" fn bakebutton_retape(
+    file: &[u8],
+    inputs: &[u8],
+    tapes: &[u8],
+    second: &[u8],
+    site: usize,
+    fresh: &mut [u8],
+    room: &mut [u8],
+) -> Answer
+    ensures { λ r. ⌜ Tells r (now (fresh .exit) ∷ now (room .exit) ∷ []) (Retape (now (file .entry)) (now (inputs .entry)) (now (tapes .entry)) (now (second .entry)) site (now (fresh .entry)) (now (room .entry))) ⌝ }
+{
+    let a = retape::retape(file, inputs, tapes, second, site, fresh, room);
+    done_told(a)
+}
+
+// PUBLIC. The table of sent bits, all zeros at a refusal.
+#[no_mangle]
+pub extern "C" fn bakebutton_traffic(file: &[u8]) -> TrafficAnswer
+    ensures { λ r. ⌜ r ≡ told-traffic (does (Traffic (now (file .entry)))) ⌝ }
+{
+    let mut number: usize = 0;
+    let mut place: usize = 0;
+    let t = traffic::traffic_of(file, &mut number, &mut place);
+    let bits = told::rows_told(t);
+    TrafficAnswer {
+        number,
+        place,
+        bits,
+    }
+}
+
+// How many bytes a listing is lent: a number for C, and no call.
+#[no_mangle]
+pub extern "C" fn bakebutton_text_bytes() -> usize
+    ensures { λ r. ⌜ r ≡ 2624 ⌝ }
+{
+    2624
+}
+
+// PUBLIC. The text of a job's listing, in front in the lent buffer. A buffer of another length is left as it was.
+#[no_mangle]
+pub extern "C" fn bakebutton_listing(job: &[u8], text: &mut [u8]) -> ListingAnswer
+    ensures { λ r. ⌜ (r ≡ told-listing (now (text .entry)) (does (Listing (now (job .entry))))) × (now (text .exit) ≡ text-left (now (text .entry)) (does (Listing (now (job .entry))))) ⌝ }
+{
+    let mut room = [0u8; 2624];
+    let a = listing::listing(job, &mut room);
+    if text.len() != 2624 {
+        return text_unfit(a);
+    }
+    let r = text_told(a);
+    put_room(&room, r.length, text);
+    r
+}

@@ -1,0 +1,75 @@
+-- What the numbers that go out say, so that good, abort and refusal are never mistaken for each other. About every call.
+--     refusal-numbers    a refusal's number is one of 1 to 14
+--     numbers-tell       the answer, from number, place and sites
+--     tells-by           a call's statement, from what its own function ensures
+--     tells-one          two answers that meet a statement are one, the buffers too
+-- Assumes nothing.
+use mathlib.Core.Path.{_≡_, refl, sym, ap, _∙_}
+use mathlib.Core.Bool.{Bool, true, false}
+use mathlib.Core.List.{List, []}
+use Prim.Native.Nat.{ℕ, zero, suc, _+_, _<_, _≤_}
+use native.Mathlib.Omega.{arith}
+use lib.ListN.{length, getD, List·getD-eq-default}
+use lib.Dec.{leb}
+use borrow.Author.Tests.{leb-true, leb-false}
+use Rattle.scope.specs.Answer.{Answer as Said, good, abort, refused, After, number-of}
+use Rattle.scope.specs.Checks.{Given, Row, no-row, row, refusal-table, Holds}
+use Rattle.scope.specs.Calls.{Call, given-of, does}
+use Rattle.scope.proofs.Whole.{refused-exactly}
+use Rattle.told.specs.declared.Answer.{Answer}
+use Rattle.told.specs.Told.{place-of, sites-of, told, Tells}
+
+rows : (g : Given) → length (refusal-table g) ≡ 15
+unfolding refusal-table
+rows g = refl
+
+no-row-above : (g : Given) (N : ℕ) → 15 ≤ N → row g N .span ≡ 0
+unfolding row
+no-row-above g N k = ap (λ (r : Row). r .span) (List·getD-eq-default (refusal-table g) no-row (omega (arith, rows g)))
+
+no-row-zero : (g : Given) (N : ℕ) → N ≡ 0 → row g N .span ≡ 0
+unfolding row refusal-table
+no-row-zero g N e = ap (λ (n : ℕ). row g n .span) e
+
+in-table : (g : Given) (N P : ℕ) → Holds g N P → (1 ≤ N) × (N ≤ 14)
+unfolding Holds
+in-table g N P h = (low (leb 1 N) refl, high (leb N 14) refl)
+  where
+    low : (b : Bool) → leb 1 N ≡ b → 1 ≤ N
+    low true e = leb-true 1 N e
+    low false e = absurd (omega (arith, h .0, no-row-zero g N (omega (arith, leb-false 1 N e))))
+
+    high : (b : Bool) → leb N 14 ≡ b → N ≤ 14
+    high true e = leb-true N 14 e
+    high false e = absurd (omega (arith, h .0, no-row-above g N (omega (arith, leb-false N 14 e))))
+
+pub refusal-numbers : (c : Call) (N P : ℕ) → does c .answer ≡ refused N P → (1 ≤ N) × (N ≤ 14)
+refusal-numbers c N P e = in-table (given-of c) N P ((refused-exactly c N P .0 e) .holds)
+
+module _ (c : Call) where
+  abbrev a : Said
+  a = does c .answer
+
+  abbrev Read : Said → Type 0
+  Read z =
+      (number-of z ≡ 0 → (vs : List ℕ) × (z ≡ good vs))
+      × (number-of z ≡ 100 → z ≡ abort (place-of z) (sites-of z))
+      × (¬ (number-of z ≡ 0) → ¬ (number-of z ≡ 100) → z ≡ refused (number-of z) (place-of z))
+
+  -- 0 is good, 100 an abort with its output and its sites, and every other number is a refusal's, with its place
+  pub numbers-tell : Read a
+  unfolding number-of place-of sites-of
+  numbers-tell = go a refl
+    where
+      go : (z : Said) → a ≡ z → Read z
+      go (good vs) e = (λ _. (vs, refl), (λ h. absurd (omega (arith, h))), (λ h _. absurd (h refl)))
+      go (abort o m) e = ((λ h. absurd (omega (arith, h))), (λ _. refl), (λ _ h. absurd (h refl)))
+      go (refused n p) e = ((λ h. absurd (omega (arith, h, refusal-numbers c n p e))), (λ h. absurd (omega (arith, h, refusal-numbers c n p e))), (λ _ _. refl))
+
+-- the statement is an equation for the answer and one for the buffers, so two that meet it are one
+pub tells-one : (c : Call) (r s : Answer) (l m : List (List ℕ)) → Tells r l c → Tells s m c → (r ≡ s) × (l ≡ m)
+tells-one c r s l m h k = (h .0 ∙ sym (k .0), h .1 ∙ sym (k .1))
+
+-- the statement, from what the call's own function ensures
+pub tells-by : (c : Call) (after : After) (r : Answer) → r ≡ told (after .answer) → after ≡ does c → Tells r (after .lent) c
+tells-by c after r h e = (h ∙ ap (λ (z : After). told (z .answer)) e, ap (λ (z : After). z .lent) e)

@@ -1,0 +1,12 @@
+use borrow.Author.Needs.{needs}
+use Rattle.scope.specs.Answer.{number-of}
+use Rattle.told.specs.Told.{place-of, sites-of}
+use Rattle.told.proofs.refused_told.Statement.{statement}
+use Rattle.told.proofs.refused_told.Tie as tie
+
+returns : tie.Need-returns
+unfolding number-of place-of sites-of
+returns c = search needs
+
+pub refused-told-spec : {M : Type 1} → statement M
+refused-told-spec = tie.close (tie.spec returns)

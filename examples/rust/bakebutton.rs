@@ -1,0 +1,245 @@
+//! Bakebutton from Rust: safe functions over the library that include/bakebutton.h declares, whose comments say what each call checks.
+//! What that header asks of C the compiler sees to here: a slice is memory that may be read, a lent one is nobody else's.
+//!
+//! Copy this file into a crate and link target/staticlib/libpanel.a (`-l static=panel`).
+
+/// What a call answers. Only a run aborts.
+#[must_use = "an abort or a refusal hands nothing over"]
+#[derive(Clone, Copy, Debug, PartialEq, Eq)]
+pub enum Answer<T = ()> {
+    Good(T),
+    /// Some site got two unlike copies at this output, and the run stopped there: its outputs are not to be shown.
+    Abort { output: usize, sites: Sites },
+    /// Number and place by the table of refusals.
+    Refused { number: usize, place: usize },
+}
+
+/// Objecting sites: a sum of 1, 2 and 4 for sites 1, 2 and 3.
+#[derive(Clone, Copy, Debug, PartialEq, Eq)]
+pub struct Sites(pub usize);
+
+impl Sites {
+    pub fn has(self, site: usize) -> bool {
+        (1..=3).contains(&site) && self.0 & (1 << (site - 1)) != 0
+    }
+}
+
+#[derive(Clone, Copy, Debug, PartialEq, Eq)]
+pub struct Counts {
+    pub inputs: usize,
+    pub gates: usize,
+    pub outputs: usize,
+}
+
+#[derive(Clone, Copy, Debug, PartialEq, Eq)]
+pub struct Gate {
+    pub kind: u16,
+    pub first: u16,
+    pub second: u16,
+}
+
+/// The length of each slice and buffer, by its name in the calls; `view[s - 1]` is that of site s.
+#[derive(Clone, Copy, Debug, PartialEq, Eq)]
+pub struct Sizes {
+    pub inputs: usize,
+    pub tapes: usize,
+    pub line: usize,
+    pub values: usize,
+    pub outputs: usize,
+    pub transcript: usize,
+    pub store: usize,
+    pub view: [usize; 3],
+    pub room: usize,
+}
+
+/// How many bytes a listing is lent.
+pub const TEXT_BYTES: usize = 2624;
+
+const GOOD: usize = 0;
+const ABORT: usize = 100;
+
+/// The structs and functions of include/bakebutton.h. Where C has a pointer and a length, they are two parameters.
+mod c {
+    #[repr(C)]
+    pub struct Answer {
+        pub number: usize,
+        pub place: usize,
+        pub sites: usize,
+    }
+    #[repr(C)]
+    pub struct CountsAnswer {
+        pub number: usize,
+        pub place: usize,
+        pub inputs: usize,
+        pub gates: usize,
+        pub outputs: usize,
+    }
+    #[repr(C)]
+    pub struct GateAnswer {
+        pub number: usize,
+        pub place: usize,
+        pub kind: u16,
+        pub first: u16,
+        pub second: u16,
+    }
+    #[repr(C)]
+    pub struct OwnerAnswer {
+        pub number: usize,
+        pub place: usize,
+        pub owner: u8,
+    }
+    #[repr(C)]
+    pub struct OutputAnswer {
+        pub number: usize,
+        pub place: usize,
+        pub wire: u16,
+    }
+    #[repr(C)]
+    pub struct TrafficAnswer {
+        pub number: usize,
+        pub place: usize,
+        pub bits: [[u32; 3]; 3],
+    }
+    #[repr(C)]
+    pub struct ListingAnswer {
+        pub number: usize,
+        pub place: usize,
+        pub length: usize,
+    }
+    #[repr(C)]
+    pub struct SizesAnswer {
+        pub number: usize,
+        pub place: usize,
+        pub inputs: usize,
+        pub tapes: usize,
+        pub line: usize,
+        pub values: usize,
+        pub outputs: usize,
+        pub transcript: usize,
+        pub store: usize,
+        pub view: [usize; 3],
+        pub room: usize,
+    }
+    extern "C" {
+        pub fn bakebutton_open(file: *const u8, file_length: usize) -> CountsAnswer;
+        pub fn bakebutton_gate(file: *const u8, file_length: usize, k: usize) -> GateAnswer;
+        pub fn bakebutton_owner(file: *const u8, file_length: usize, k: usize) -> OwnerAnswer;
+        pub fn bakebutton_output(file: *const u8, file_length: usize, k: usize) -> OutputAnswer;
+        pub fn bakebutton_check(file: *const u8, file_length: usize) -> CountsAnswer;
+        pub fn bakebutton_sizes(file: *const u8, file_length: usize) -> SizesAnswer;
+        pub fn bakebutton_plain(file: *const u8, file_length: usize, inputs: *const u8, inputs_length: usize, values: *mut u8, values_length: usize) -> Answer;
+        pub fn bakebutton_run(file: *const u8, file_length: usize, inputs: *const u8, inputs_length: usize, tapes: *const u8, tapes_length: usize, line: *const u8, line_length: usize, outputs: *mut u8, outputs_length: usize, transcript: *mut u8, transcript_length: usize, store: *mut u8, store_length: usize) -> Answer;
+        pub fn bakebutton_view(file: *const u8, file_length: usize, inputs: *const u8, inputs_length: usize, tapes: *const u8, tapes_length: usize, site: usize, view: *mut u8, view_length: usize, store: *mut u8, store_length: usize) -> Answer;
+        pub fn bakebutton_retape(file: *const u8, file_length: usize, inputs: *const u8, inputs_length: usize, tapes: *const u8, tapes_length: usize, second: *const u8, second_length: usize, site: usize, fresh: *mut u8, fresh_length: usize, room: *mut u8, room_length: usize) -> Answer;
+        pub fn bakebutton_traffic(file: *const u8, file_length: usize) -> TrafficAnswer;
+        pub fn bakebutton_listing(job: *const u8, job_length: usize, text: *mut u8, text_length: usize) -> ListingAnswer;
+    }
+}
+
+fn told<T>(number: usize, place: usize, sites: usize, value: T) -> Answer<T> {
+    match number {
+        GOOD => Answer::Good(value),
+        ABORT => Answer::Abort { output: place, sites: Sites(sites) },
+        _ => Answer::Refused { number, place },
+    }
+}
+
+fn counts(a: c::CountsAnswer) -> Answer<Counts> {
+    told(a.number, a.place, 0, Counts { inputs: a.inputs, gates: a.gates, outputs: a.outputs })
+}
+
+/// The counts of a file whose header is good.
+pub fn open(file: &[u8]) -> Answer<Counts> {
+    counts(unsafe { c::bakebutton_open(file.as_ptr(), file.len()) })
+}
+
+/// Gate k as it is stored, good or bad.
+pub fn gate(file: &[u8], k: usize) -> Answer<Gate> {
+    let a = unsafe { c::bakebutton_gate(file.as_ptr(), file.len(), k) };
+    told(a.number, a.place, 0, Gate { kind: a.kind, first: a.first, second: a.second })
+}
+
+/// The owner of input k as it is stored.
+pub fn owner(file: &[u8], k: usize) -> Answer<u8> {
+    let a = unsafe { c::bakebutton_owner(file.as_ptr(), file.len(), k) };
+    told(a.number, a.place, 0, a.owner)
+}
+
+/// The wire of output k as it is stored.
+pub fn output(file: &[u8], k: usize) -> Answer<u16> {
+    let a = unsafe { c::bakebutton_output(file.as_ptr(), file.len(), k) };
+    told(a.number, a.place, 0, a.wire)
+}
+
+/// The whole circuit, checked.
+pub fn check(file: &[u8]) -> Answer<Counts> {
+    counts(unsafe { c::bakebutton_check(file.as_ptr(), file.len()) })
+}
+
+/// The lengths of all slices and buffers that go with a circuit.
+pub fn sizes(file: &[u8]) -> Answer<Sizes> {
+    let a = unsafe { c::bakebutton_sizes(file.as_ptr(), file.len()) };
+    let sizes = Sizes {
+        inputs: a.inputs,
+        tapes: a.tapes,
+        line: a.line,
+        values: a.values,
+        outputs: a.outputs,
+        transcript: a.transcript,
+        store: a.store,
+        view: a.view,
+        room: a.room,
+    };
+    told(a.number, a.place, 0, sizes)
+}
+
+/// The plain value of every wire.
+pub fn plain(file: &[u8], inputs: &[u8], values: &mut [u8]) -> Answer {
+    let a = unsafe { c::bakebutton_plain(file.as_ptr(), file.len(), inputs.as_ptr(), inputs.len(), values.as_mut_ptr(), values.len()) };
+    told(a.number, a.place, a.sites, ())
+}
+
+/// The run of the three sites on a line.
+pub fn run(file: &[u8], inputs: &[u8], tapes: &[u8], line: &[u8], outputs: &mut [u8], transcript: &mut [u8], store: &mut [u8]) -> Answer {
+    let a = unsafe {
+        c::bakebutton_run(
+            file.as_ptr(), file.len(), inputs.as_ptr(), inputs.len(), tapes.as_ptr(), tapes.len(), line.as_ptr(), line.len(),
+            outputs.as_mut_ptr(), outputs.len(), transcript.as_mut_ptr(), transcript.len(), store.as_mut_ptr(), store.len(),
+        )
+    };
+    told(a.number, a.place, a.sites, ())
+}
+
+/// What one site sees of a run on a clean line.
+pub fn view(file: &[u8], inputs: &[u8], tapes: &[u8], site: usize, view: &mut [u8], store: &mut [u8]) -> Answer {
+    let a = unsafe {
+        c::bakebutton_view(
+            file.as_ptr(), file.len(), inputs.as_ptr(), inputs.len(), tapes.as_ptr(), tapes.len(), site,
+            view.as_mut_ptr(), view.len(), store.as_mut_ptr(), store.len(),
+        )
+    };
+    told(a.number, a.place, a.sites, ())
+}
+
+/// The tapes that explain one site's view by other inputs.
+pub fn retape(file: &[u8], inputs: &[u8], tapes: &[u8], second: &[u8], site: usize, fresh: &mut [u8], room: &mut [u8]) -> Answer {
+    let a = unsafe {
+        c::bakebutton_retape(
+            file.as_ptr(), file.len(), inputs.as_ptr(), inputs.len(), tapes.as_ptr(), tapes.len(), second.as_ptr(), second.len(), site,
+            fresh.as_mut_ptr(), fresh.len(), room.as_mut_ptr(), room.len(),
+        )
+    };
+    told(a.number, a.place, a.sites, ())
+}
+
+/// How many bits site s sends to site r: `[s - 1][r - 1]`.
+pub fn traffic(file: &[u8]) -> Answer<[[u32; 3]; 3]> {
+    let a = unsafe { c::bakebutton_traffic(file.as_ptr(), file.len()) };
+    told(a.number, a.place, 0, a.bits)
+}
+
+/// The listing of a job, and how many bytes of the lent buffer are its text: a refused job has one too.
+pub fn listing(job: &[u8], text: &mut [u8; TEXT_BYTES]) -> (Answer, usize) {
+    let a = unsafe { c::bakebutton_listing(job.as_ptr(), job.len(), text.as_mut_ptr(), text.len()) };
+    (told(a.number, a.place, 0, ()), a.length)
+}

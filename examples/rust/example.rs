@@ -1,0 +1,101 @@
+//! The panel's three cases, on document 01's example circuit: a good run (K1), an abort (K4), a refusal. It prints what the C example
+//! prints, and holds the wrapper's other functions to document 01's values.
+
+mod bakebutton;
+
+use bakebutton::{Answer, Counts, Gate, Sizes};
+
+/// Owners 1 and 2, one gate AND of wires 0 and 1, output wire 2: docs/FORMAT.md says what stands where.
+const CIRCUIT: [u8; 42] = [
+    42, 0, 0, 0, 2, 0, 0, 0, 1, 0, 0, 0, 1, 0, 0, 0, // 42 bytes, 2 inputs, 1 gate, 1 output
+    32, 0, 0, 0, 34, 0, 0, 0, 40, 0, 0, 0, 0, 0, 0, 0, // where owners, gates and outputs begin
+    1, 2, // owners
+    2, 0, 0, 0, 1, 0, // AND, wires 0 and 1
+    2, 0, // output: wire 2
+];
+
+const INPUTS: [u8; 2] = [1, 1];
+
+/// Random bits: site 1 has two for its input and two for the AND, site 2 likewise, site 3 two for the AND. A panel draws them.
+const TAPES: [u8; 10] = [1, 0, 1, 1, 0, 1, 0, 1, 1, 0];
+
+fn signs(bits: &[u8]) -> String {
+    bits.iter().map(|&bit| if bit <= 1 { (b'0' + bit) as char } else { '?' }).collect()
+}
+
+/// An answer for a person.
+fn words(answer: Answer) -> String {
+    match answer {
+        Answer::Good(()) => "good".to_string(),
+        Answer::Abort { output, sites } => {
+            let named: String = (1..=3).filter(|&site| sites.has(site)).map(|site| format!(" site {site}")).collect();
+            format!("abort at output {output}: two unlike copies at{named}; no outputs are handed over")
+        }
+        Answer::Refused { number, place } => format!("refused, number {number}, place {place}"),
+    }
+}
+
+/// A run with one bit of the line turned, or none, and tapes of a length.
+fn show(title: &str, sizes: &Sizes, turned: Option<usize>, tapes: &[u8]) {
+    let mut line = vec![0; sizes.line];
+    let mut outputs = vec![9; sizes.outputs]; // no bits, so that it shows where nothing was written
+    let mut transcript = vec![9; sizes.transcript];
+    let mut store = vec![9; sizes.store];
+    if let Some(place) = turned {
+        line[place] = 1;
+    }
+    let answer = bakebutton::run(&CIRCUIT, &INPUTS, tapes, &line, &mut outputs, &mut transcript, &mut store);
+    println!("{title}");
+    println!("  answer     {}", words(answer));
+    println!("  outputs    {}", signs(&outputs));
+    println!("  transcript {}", signs(&transcript));
+}
+
+/// The other calls, against document 01's K3, K8, K9, K11 and K12 and its listing.
+fn hold_to_document(sizes: &Sizes) {
+    let counts = Counts { inputs: 2, gates: 1, outputs: 1 };
+    assert_eq!(bakebutton::open(&CIRCUIT), Answer::Good(counts));
+    assert_eq!(bakebutton::check(&CIRCUIT), Answer::Good(counts));
+    assert_eq!(bakebutton::open(&[]), Answer::Refused { number: 1, place: 0 });
+    assert_eq!(bakebutton::gate(&CIRCUIT, 0), Answer::Good(Gate { kind: 2, first: 0, second: 1 }));
+    assert_eq!(bakebutton::gate(&CIRCUIT, 65536), Answer::Refused { number: 5, place: 1 });
+    assert_eq!(bakebutton::owner(&CIRCUIT, 1), Answer::Good(2));
+    assert_eq!(bakebutton::output(&CIRCUIT, 0), Answer::Good(2));
+    let mut bad = CIRCUIT;
+    bad[38] = 2;
+    assert_eq!(bakebutton::check(&bad), Answer::Refused { number: 5, place: 0 });
+    assert_eq!(bakebutton::traffic(&CIRCUIT), Answer::Good([[0, 4, 5], [5, 0, 4], [2, 3, 0]]));
+
+    let mut values = vec![9; sizes.values];
+    assert_eq!(bakebutton::plain(&CIRCUIT, &INPUTS, &mut values), Answer::Good(()));
+    assert_eq!(signs(&values), "111");
+    let mut view = vec![9; sizes.view[2]];
+    let mut store = vec![9; sizes.store];
+    assert_eq!(bakebutton::view(&CIRCUIT, &INPUTS, &TAPES, 3, &mut view, &mut store), Answer::Good(()));
+    assert_eq!(signs(&view), "1000011101001");
+    let mut fresh = vec![9; sizes.tapes];
+    let mut room = vec![9; sizes.room];
+    assert_eq!(bakebutton::retape(&CIRCUIT, &[1, 0], &TAPES, &[0, 1], 3, &mut fresh, &mut room), Answer::Good(()));
+    assert_eq!(signs(&fresh), "0001010110");
+    assert_eq!(bakebutton::retape(&CIRCUIT, &[1, 1], &TAPES, &[1, 0], 3, &mut fresh, &mut room), Answer::Refused { number: 13, place: 2 });
+
+    let mut job: Vec<u8> = [70u32, 16, 58, 60].iter().flat_map(|number| number.to_le_bytes()).collect();
+    job.extend_from_slice(&CIRCUIT);
+    job.extend_from_slice(&INPUTS);
+    job.extend_from_slice(&TAPES);
+    let mut text = [0; bakebutton::TEXT_BYTES];
+    let (answer, length) = bakebutton::listing(&job, &mut text);
+    assert_eq!(answer, Answer::Good(()));
+    assert_eq!(&text[..length], b"inputs 2 gates 1 outputs 1\nbits 23\nout 0 1\nend\n");
+}
+
+fn main() {
+    let sizes = match bakebutton::sizes(&CIRCUIT) {
+        Answer::Good(sizes) => sizes,
+        other => panic!("the circuit is {other:?}"),
+    };
+    hold_to_document(&sizes);
+    show("K1: the AND of site 1's bit and site 2's bit, both 1, on a clean line", &sizes, None, &TAPES);
+    show("K4: the same with bit 20 of the line turned", &sizes, Some(20), &TAPES);
+    show("K1 with its last random bit left out", &sizes, None, &TAPES[..sizes.tapes - 1]);
+}
