@@ -2,6 +2,7 @@
 //! What that header asks of C the compiler sees to here: a slice is memory that may be read, a lent one is nobody else's.
 //!
 //! Copy this file into a crate and link target/staticlib/libpanel.a (`-l static=panel`).
+#![allow(dead_code)] // no panel makes every call
 
 /// What a call answers. Only a run aborts.
 #[must_use = "an abort or a refusal hands nothing over"]
