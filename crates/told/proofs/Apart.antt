@@ -2,7 +2,8 @@
 --     refusal-numbers    a refusal's number is one of 1 to 14
 --     numbers-tell       the answer, from number, place and sites
 --     tells-by           a call's statement, from what its own function ensures
---     tells-one          two answers that meet a statement are one, the buffers too
+--     given-one          two structs that meet one equation are one: those of open, check, gate, owner, output, sizes and traffic
+--     tells-one, listing-told-one    two answers that meet a statement are one, the buffers too: of plain values, run, view and re-taping; of the listing
 -- Assumes nothing.
 use mathlib.Core.Path.{_≡_, refl, sym, ap, _∙_}
 use mathlib.Core.Bool.{Bool, true, false}
@@ -14,10 +15,11 @@ use lib.Dec.{leb}
 use borrow.Author.Tests.{leb-true, leb-false}
 use Rattle.scope.specs.Answer.{Answer as Said, good, abort, refused, After, number-of}
 use Rattle.scope.specs.Checks.{Given, Row, no-row, row, refusal-table, Holds}
-use Rattle.scope.specs.Calls.{Call, given-of, does}
+use Rattle.scope.specs.Calls.{Call, Listing, given-of, does}
 use Rattle.scope.proofs.Whole.{refused-exactly}
 use Rattle.told.specs.declared.Answer.{Answer}
-use Rattle.told.specs.Told.{place-of, sites-of, told, Tells}
+use Rattle.told.specs.declared.ListingAnswer.{ListingAnswer}
+use Rattle.told.specs.Told.{place-of, sites-of, told, Tells, told-listing, text-left}
 
 rows : (g : Given) → length (refusal-table g) ≡ 15
 unfolding refusal-table
@@ -66,9 +68,16 @@ module _ (c : Call) where
       go (abort o m) e = ((λ h. absurd (omega (arith, h))), (λ _. refl), (λ _ h. absurd (h refl)))
       go (refused n p) e = ((λ h. absurd (omega (arith, h, refusal-numbers c n p e))), (λ h. absurd (omega (arith, h, refusal-numbers c n p e))), (λ _ _. refl))
 
+pub given-one : {A : Type 0} (x r s : A) → r ≡ x → s ≡ x → r ≡ s
+given-one x r s h k = h ∙ sym k
+
 -- the statement is an equation for the answer and one for the buffers, so two that meet it are one
 pub tells-one : (c : Call) (r s : Answer) (l m : List (List ℕ)) → Tells r l c → Tells s m c → (r ≡ s) × (l ≡ m)
-tells-one c r s l m h k = (h .0 ∙ sym (k .0), h .1 ∙ sym (k .1))
+tells-one c r s l m h k = (given-one _ r s (h .0) (k .0), given-one _ l m (h .1) (k .1))
+
+pub listing-told-one : (job text : List ℕ) (r s : ListingAnswer) (l m : List ℕ) → (r ≡ told-listing text (does (Listing job))) × (l ≡ text-left text (does (Listing job)))
+    → (s ≡ told-listing text (does (Listing job))) × (m ≡ text-left text (does (Listing job))) → (r ≡ s) × (l ≡ m)
+listing-told-one job text r s l m h k = (given-one _ r s (h .0) (k .0), given-one _ l m (h .1) (k .1))
 
 -- the statement, from what the call's own function ensures
 pub tells-by : (c : Call) (after : After) (r : Answer) → r ≡ told (after .answer) → after ≡ does c → Tells r (after .lent) c
