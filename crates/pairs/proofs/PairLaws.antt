@@ -1,10 +1,13 @@
 -- What the proofs of a site's steps cite.
 --     mix-law                                an AND's pair and draws
+--     places-eq                              places are alike where each of them is
+--     further-none, further-add              no bit further on, and so many and then so many
 --     and-law, xor-law                       a gate of either kind
 use mathlib.Core.Path.{_≡_}
 use mathlib.Core.List.{List}
 use Prim.Native.Nat.{ℕ, _+_, _*_}
 use lib.ListN.{getD}
+use native.Mathlib.Omega.{arith}
 use Rattle.sharing.specs.Ops.{bits}
 use Rattle.sharing.specs.Sites.{Site}
 use Rattle.sharing.specs.Steps.{local}
@@ -16,7 +19,7 @@ use Rattle.messages.specs.declared.Four.{Four}
 use Rattle.steps.specs.Mirror.{lent, on-part}
 use Rattle.pairs.specs.declared.Places.{Places}
 use Rattle.pairs.specs.declared.Mixed.{Mixed}
-use Rattle.pairs.specs.Mirror.{st, forward-of, flipped, mixed, put-two, and-on, xor-on}
+use Rattle.pairs.specs.Mirror.{st, places, further, flipped, mixed, put-two, and-on, xor-on}
 
 pub mix-law : (own next prev : List ℕ) (at : Places) (p q : Two) (u v y z : ℕ) (f g l : ℕ) (k m : Four)
     → f ≡ next-product bits (pair-of p) u (pair-of q) v → g ≡ next-product bits (pair-of p) y (pair-of q) z → l ≡ local bits (pair-of p) (pair-of q)
@@ -29,14 +32,23 @@ pub mix-law : (own next prev : List ℕ) (at : Places) (p q : Two) (u v y z : �
 unfolding mixed deal-at
 mix-law own next prev at p q u v y z f g l k m h1 h2 h3 h4 h5 = cc
 
-module _ (s : Site) (own next prev : List ℕ) (n a b w o : ℕ) (room moved : List ℕ) (at : Places) where
-  pub and-law : (p0 q0 p q r : Two) (m : Mixed) (l d : List ℕ) (z : Places)
-      → p0 ≡ two-at (lent (2 * n) (4 * n) room) a → q0 ≡ two-at (lent (2 * n) (4 * n) room) b → p ≡ flipped s o p0 → q ≡ flipped s o q0
+pub places-eq : {a b c a′ b′ c′ : ℕ} → a ≡ a′ → b ≡ b′ → c ≡ c′ → places a b c ≡ places a′ b′ c′
+places-eq p q r = λ i. places (p i) (q i) (r i)
+
+pub further-none : (p : Places) → further p 0 ≡ p
+further-none p = places-eq (omega arith) (omega arith) (omega arith)
+
+pub further-add : (p : Places) (a b : ℕ) → further (further p a) b ≡ further p (a + b)
+further-add p a b = places-eq (omega arith) (omega arith) (omega arith)
+
+module _ (s : Site) (own next prev : List ℕ) (n a b w o : ℕ) (room moved : List ℕ) (from : Places) (t : ℕ) where
+  pub and-law : (at : Places) (p0 q0 p q r : Two) (m : Mixed) (l d : List ℕ)
+      → at ≡ further from t → p0 ≡ two-at (lent (2 * n) (4 * n) room) a → q0 ≡ two-at (lent (2 * n) (4 * n) room) b → p ≡ flipped s o p0 → q ≡ flipped s o q0
       → m ≡ mixed own next prev at p q (bits .add (getD room a 0) o) (bits .add (getD room b 0) o) (bits .add (getD room (n + a) 0) o) (bits .add (getD room (n + b) 0) o)
-      → d ≡ put-two (at .next) (m .first) (m .second) moved → r ≡ flipped s o (m .pair) → l ≡ on-part (2 * n) (4 * n) (put-at w (pair-of r)) room → z ≡ forward-of at
-      → st l d z ≡ and-on s own next prev n a b w o (st room moved at)
+      → d ≡ put-two (at .next) (m .first) (m .second) moved → r ≡ flipped s o (m .pair) → l ≡ on-part (2 * n) (4 * n) (put-at w (pair-of r)) room
+      → st l d (further from (t + 2)) ≡ and-on s own next prev n a b w o (st room moved (further from t))
   unfolding and-on
-  and-law p0 q0 p q r m l d z h1 h2 h3 h4 h5 h6 h7 h8 h9 = cc
+  and-law at p0 q0 p q r m l d h0 h1 h2 h3 h4 h5 h6 h7 h8 = let e = further-add from t 2 in cc
 
 pub xor-law : (n a b w : ℕ) (room l : List ℕ) (p q : Two) → p ≡ two-at (lent (2 * n) (4 * n) room) a → q ≡ two-at (lent (2 * n) (4 * n) room) b
     → l ≡ on-part (2 * n) (4 * n) (put-at w (bits .add (p .x) (q .x), bits .add (p .y) (q .y))) room → l ≡ xor-on n a b w room

@@ -2,7 +2,7 @@
 -- sharing's re-taping.
 --     Fits               there is room on three tapes for so many more deals
 --     St, st             the work room, the next site's new tape, and the running places
---     forward-of         the places after an AND or OR
+--     further            places so many bits further on; two of them after an AND or OR
 --     flip-by, flipped   part 1 added to, where a site holds it
 --     mixed              an AND: the site's new pair, the next site's two draws
 --     put-two            two draws on a tape
@@ -43,8 +43,8 @@ st room moved at = record { room = room; moved = moved; at = at }
 abbrev pub places : ℕ → ℕ → ℕ → Places
 places a b c = record { own = a; next = b; prev = c }
 
-unfoldable pub forward-of : Places → Places
-forward-of p = places (p .own + 2) (p .next + 2) (p .prev + 2)
+abbrev pub further : Places → ℕ → Places
+further p t = places (p .own + t) (p .next + t) (p .prev + t)
 
 abbrev pub flip-by : Site → ℕ → Pair → Pair
 flip-by s1 o p = (bits .add (p .0) o, p .1)
@@ -93,7 +93,7 @@ module _ (s : Site) (own next prev : List ℕ) (n : ℕ) where
       let p : Two = flipped s o (two (wire-in n a l .0) (wire-in n a l .1)) in
       let q : Two = flipped s o (two (wire-in n b l .0) (wire-in n b l .1)) in
       let m : Mixed = mixed own next prev (x .at) p q (bits .add (getD l a 0) o) (bits .add (getD l b 0) o) (bits .add (getD l (n + a) 0) o) (bits .add (getD l (n + b) 0) o) in
-      st (put-wire n w (pair-of (flipped s o (m .pair))) l) (put-two (x .at .next) (m .first) (m .second) (x .moved)) (forward-of (x .at))
+      st (put-wire n w (pair-of (flipped s o (m .pair))) l) (put-two (x .at .next) (m .first) (m .second) (x .moved)) (further (x .at) 2)
 
   -- wire w becomes this gate's
   unfoldable pub gate-on : ℕ → Gate → St → St

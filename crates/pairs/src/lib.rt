@@ -13,7 +13,7 @@ ghost use Rattle.messages.specs.Mirror.{pair-of};
 ghost use Rattle.steps.specs.Mirror.{lent, on-part};
 ghost use Rattle.circuit.specs.Checked.{Checked};
 ghost use Rattle.engine.specs.Mirror.{Lower};
-ghost use Rattle.pairs.specs.Mirror.{Fits, st, forward-of, flipped, mixed, put-two, and-on, xor-on, not-on, gate-on};
+ghost use Rattle.pairs.specs.Mirror.{Fits, st, further, flipped, mixed, put-two, and-on, xor-on, not-on, gate-on};
 use circuit::Gate;
 use header::Counts;
 use messages::Two;
@@ -32,12 +32,15 @@ pub struct Mixed {
     pub second: u8,
 }
 
-// The site's pair of wire w, of n wires.
+// The site's pair of wire w, of n wires. Read byte by byte, as an AND wrote it: a word of two bytes just written would have to wait.
 pub fn pair_in(room: &[u8], n: usize, w: usize) -> Two
     requires { ⌜ (length (now room) ≡ 4 * n) × (n ≤ 4096) × (w < n) ⌝ }
     ensures { λ r. ⌜ r ≡ two-at (lent (2 * n) (4 * n) (now (room .entry))) w ⌝ }
 {
-    site::pair_of(&room[2 * n..4 * n], w)
+    let part = &room[2 * n..4 * n];
+    let x = part[2 * w];
+    let y = part[2 * w + 1];
+    Two { x, y }
 }
 
 // Wire w becomes this pair; the plain values stay.
@@ -57,15 +60,15 @@ pub fn put_draws(moved: &mut [u8], at: usize, x: u8, y: u8)
     moved[at + 1] = y;
 }
 
-// The places after an AND or OR: two bits of each tape.
-fn forward(at: Places) -> Places
-    requires { ⌜ (at .own ≤ 65536) × (at .next ≤ 65536) × (at .prev ≤ 65536) ⌝ }
-    ensures { λ r. ⌜ r ≡ forward-of at ⌝ }
+// The places t bits further on.
+fn beyond(from: Places, t: usize) -> Places
+    requires { ⌜ (from .own + t ≤ 65536) × (from .next + t ≤ 65536) × (from .prev + t ≤ 65536) ⌝ }
+    ensures { λ r. ⌜ r ≡ further from t ⌝ }
 {
     Places {
-        own: at.own + 2,
-        next: at.next + 2,
-        prev: at.prev + 2,
+        own: from.own + t,
+        next: from.next + t,
+        prev: from.prev + t,
     }
 }
 
@@ -141,13 +144,15 @@ fn and_gate(
     b: usize,
     w: usize,
     o: u8,
-    at: Places,
-) -> Places
+    from: Places,
+    t: usize,
+) -> usize
     requires { ⌜ (length (now room) ≡ 4 * n) × (n ≤ 4096) ⌝ }
     requires { ⌜ (a < w) × (b < w) × (w < n) ⌝ }
-    requires { ⌜ Fits 1 (length (now own)) (length (now next)) (length (now prev)) at × (length (now moved) ≡ length (now next)) ⌝ }
-    ensures { λ r. ⌜ st (now (room .exit)) (now (moved .exit)) r ≡ and-on (site-of site) (now (own .entry)) (now (next .entry)) (now (prev .entry)) n a b w o (st (now (room .entry)) (now (moved .entry)) at) ⌝ }
+    requires { ⌜ Fits 1 (length (now own)) (length (now next)) (length (now prev)) (further from t) × (length (now moved) ≡ length (now next)) ⌝ }
+    ensures { λ r. ⌜ st (now (room .exit)) (now (moved .exit)) (further from r) ≡ and-on (site-of site) (now (own .entry)) (now (next .entry)) (now (prev .entry)) n a b w o (st (now (room .entry)) (now (moved .entry)) (further from t)) ⌝ }
 {
+    let at = beyond(from, t);
     let p = flip(site, o, pair_in(room, n, a));
     let q = flip(site, o, pair_in(room, n, b));
     let u = room[a] ^ o;
@@ -158,7 +163,7 @@ fn and_gate(
     put_draws(moved, at.next, m.first, m.second);
     let r = flip(site, o, m.pair);
     put_in(room, n, w, r);
-    forward(at)
+    t + 2
 }
 
 // XOR: "each held part, xored".
@@ -203,26 +208,27 @@ fn kind_step(
     a: usize,
     b: usize,
     w: usize,
-    at: Places,
-) -> Places
+    from: Places,
+    t: usize,
+) -> usize
     requires { ⌜ (length (now room) ≡ 4 * n) × (n ≤ 4096) ⌝ }
     requires { ⌜ Lower (gate-of kind a b) w × (w < n) ⌝ }
-    requires { ⌜ Fits (dealing (gate-of kind a b)) (length (now own)) (length (now next)) (length (now prev)) at × (length (now moved) ≡ length (now next)) ⌝ }
-    ensures { λ r. ⌜ st (now (room .exit)) (now (moved .exit)) r ≡ gate-on (site-of site) (now (own .entry)) (now (next .entry)) (now (prev .entry)) n w (gate-of kind a b) (st (now (room .entry)) (now (moved .entry)) at) ⌝ }
+    requires { ⌜ Fits (dealing (gate-of kind a b)) (length (now own)) (length (now next)) (length (now prev)) (further from t) × (length (now moved) ≡ length (now next)) ⌝ }
+    ensures { λ r. ⌜ st (now (room .exit)) (now (moved .exit)) (further from r) ≡ gate-on (site-of site) (now (own .entry)) (now (next .entry)) (now (prev .entry)) n w (gate-of kind a b) (st (now (room .entry)) (now (moved .entry)) (further from t)) ⌝ }
 {
     if kind == 1 {
         xor_gate(room, n, a, b, w);
-        return at;
+        return t;
     }
     if kind == 3 {
         not_gate(site, room, n, a, w);
-        return at;
+        return t;
     }
     let o = steps::or_bit(kind);
-    and_gate(site, own, next, prev, room, moved, n, a, b, w, o, at)
+    and_gate(site, own, next, prev, room, moved, n, a, b, w, o, from, t)
 }
 
-// Gate k of a checked file.
+// Gate k of a checked file, t bits behind where the first gate found the tapes. All three move in step from there on.
 pub fn gate_step(
     file: &[u8],
     c: Counts,
@@ -233,18 +239,19 @@ pub fn gate_step(
     room: &mut [u8],
     moved: &mut [u8],
     k: usize,
-    at: Places,
-) -> Places
+    from: Places,
+    t: usize,
+) -> usize
     requires { ⌜ Checked (now file) c × (k < c .gates) ⌝ }
     requires { ⌜ length (now room) ≡ 4 * (c .inputs + c .gates) ⌝ }
-    requires { ⌜ Fits (dealing (circuit (now file) .gate k)) (length (now own)) (length (now next)) (length (now prev)) at × (length (now moved) ≡ length (now next)) ⌝ }
-    ensures { λ r. ⌜ st (now (room .exit)) (now (moved .exit)) r ≡ gate-on (site-of site) (now (own .entry)) (now (next .entry)) (now (prev .entry)) (c .inputs + c .gates) (c .inputs + k) (circuit (now (file .entry)) .gate k) (st (now (room .entry)) (now (moved .entry)) at) ⌝ }
+    requires { ⌜ Fits (dealing (circuit (now file) .gate k)) (length (now own)) (length (now next)) (length (now prev)) (further from t) × (length (now moved) ≡ length (now next)) ⌝ }
+    ensures { λ r. ⌜ st (now (room .exit)) (now (moved .exit)) (further from r) ≡ gate-on (site-of site) (now (own .entry)) (now (next .entry)) (now (prev .entry)) (c .inputs + c .gates) (c .inputs + k) (circuit (now (file .entry)) .gate k) (st (now (room .entry)) (now (moved .entry)) (further from t)) ⌝ }
 {
     let n = c.inputs + c.gates;
     let w = c.inputs + k;
     let r = reader::gate_with(file, c, k);
     let Gate::Is(kind, a, b) = r else {
-        return at;
+        return t;
     };
     kind_step(
         site,
@@ -258,6 +265,7 @@ pub fn gate_step(
         a as usize,
         b as usize,
         w,
-        at,
+        from,
+        t,
     )
 }

@@ -17,17 +17,26 @@ use header::Counts;
 use messages::Held;
 use messages::Two;
 
-// Of three pairs, the site's.
+// Of three pairs, the site's. Part by part, so that no pair has to be in memory.
 pub fn pair_of_site(h: Held, site: usize) -> Two
     ensures { λ r. ⌜ r ≡ pair-of-site (site-of site) h ⌝ }
 {
     if site == 1 {
-        return h.p1;
+        return Two {
+            x: h.p1.x,
+            y: h.p1.y,
+        };
     }
     if site == 2 {
-        return h.p2;
+        return Two {
+            x: h.p2.x,
+            y: h.p2.y,
+        };
     }
-    h.p3
+    Two {
+        x: h.p3.x,
+        y: h.p3.y,
+    }
 }
 
 // Two delivered bits.

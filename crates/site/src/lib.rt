@@ -4,7 +4,7 @@ ghost use Prim.Native.Nat.{_+_, _*_, _<_, _≤_};
 ghost use lib.ListN.{length};
 ghost use Rattle.sharing.specs.Ops.{bits};
 ghost use Rattle.site.specs.Mirror.{put-at, add-at, flip-at, local-at, take-at, two-at};
-ghost use Rattle.messages.specs.Mirror.{deal-at, kept-of, next-of, prev-of};
+ghost use Rattle.messages.specs.Mirror.{two, deal-at, kept-of, next-of, prev-of};
 use messages::Four;
 use messages::Two;
 
@@ -17,15 +17,32 @@ pub fn put_pair(part: &mut [u8], w: usize, x: u8, y: u8)
     part[2 * w + 1] = y;
 }
 
+// A pair as one value. Made here and handed back, it is read from the store as one word of 16 bits, and an XOR is one of two words.
+fn paired(x: u8, y: u8) -> Two
+    ensures { λ r. ⌜ r ≡ two x y ⌝ }
+{
+    Two { x, y }
+}
+
+// A site's pair of a wire, read.
+pub fn pair_of(part: &[u8], w: usize) -> Two
+    requires { ⌜ 2 * w + 1 < length (now part) ⌝ }
+    ensures { λ r. ⌜ r ≡ two-at (now (part .entry)) w ⌝ }
+{
+    let x = part[2 * w];
+    let y = part[2 * w + 1];
+    paired(x, y)
+}
+
 // XOR at one site: "each held part, xored".
 pub fn add_step(part: &mut [u8], a: usize, b: usize, w: usize)
     requires { ⌜ 2 * w + 1 < length (now part) ⌝ }
     requires { ⌜ (a < w) × (b < w) ⌝ }
     ensures { λ _. ⌜ now (part .exit) ≡ add-at bits a b w (now (part .entry)) ⌝ }
 {
-    let x = part[2 * a] ^ part[2 * b];
-    let y = part[2 * a + 1] ^ part[2 * b + 1];
-    put_pair(part, w, x, y);
+    let p = pair_of(part, a);
+    let q = pair_of(part, b);
+    put_pair(part, w, p.x ^ q.x, p.y ^ q.y);
 }
 
 // NOT at one site: f and g say which of its two parts is part 1.
@@ -69,14 +86,4 @@ pub fn take_site(part: &mut [u8], w: usize, k: Four, p: Four, q: Four, f: u8, g:
     let x = k.d ^ p.a ^ q.c ^ f;
     let y = k.a ^ p.b ^ q.d ^ g;
     put_pair(part, w, x, y);
-}
-
-// A site's pair of a wire, read.
-pub fn pair_of(part: &[u8], w: usize) -> Two
-    requires { ⌜ 2 * w + 1 < length (now part) ⌝ }
-    ensures { λ r. ⌜ r ≡ two-at (now (part .entry)) w ⌝ }
-{
-    let x = part[2 * w];
-    let y = part[2 * w + 1];
-    Two { x, y }
 }

@@ -4,7 +4,7 @@ ghost use Prim.Native.Nat.{ℕ, _+_, _*_, _<_, _≤_};
 ghost use lib.ListN.{length};
 ghost use Rattle.sharing.specs.Ops.{bits};
 ghost use Rattle.site.specs.Mirror.{put-at, add-at, flip-at, local-at, take-at, two-at};
-ghost use Rattle.messages.specs.Mirror.{deal-at, line-at, on-line, kept-of, next-of, prev-of, in-pairs, on-line-six, objects-of, opened-of};
+ghost use Rattle.messages.specs.Mirror.{four, deal-at, line-at, on-line, kept-of, next-of, prev-of, in-pairs, on-line-six, objects-of, opened-of};
 ghost use Rattle.steps.specs.Mirror.{or-bit, on-lines, put-four, put-twelve, add-gate, not-gate, sends, takes, put-held, held-at, put-six};
 use messages::Four;
 use messages::Held;
@@ -20,22 +20,22 @@ pub fn on_line12(m: Twelve, line: &[u8], at: usize) -> Twelve
     Twelve { s1, s2, s3 }
 }
 
-// Delivered bits, into the transcript from its place at.
-fn put_bits(room: &mut [u8], at: usize, m: Four)
+// Delivered bits, into the transcript from its place at. One by one: as a struct they would be packed into a word on the way.
+fn put_bits(room: &mut [u8], at: usize, a: u8, b: u8, c: u8, d: u8)
     requires { ⌜ (at < length (now room)) × (at + 1 < length (now room)) × (at + 2 < length (now room)) × (at + 3 < length (now room)) ⌝ }
-    ensures { λ _. ⌜ now (room .exit) ≡ put-four at m (now (room .entry)) ⌝ }
+    ensures { λ _. ⌜ now (room .exit) ≡ put-four at (four a b c d) (now (room .entry)) ⌝ }
 {
-    room[at] = m.a;
-    room[at + 1] = m.b;
-    room[at + 2] = m.c;
-    room[at + 3] = m.d;
+    room[at] = a;
+    room[at + 1] = b;
+    room[at + 2] = c;
+    room[at + 3] = d;
 }
 
 pub fn put4(room: &mut [u8], at: usize, m: Four)
     requires { ⌜ at + 4 ≤ length (now room) ⌝ }
     ensures { λ _. ⌜ now (room .exit) ≡ put-four at m (now (room .entry)) ⌝ }
 {
-    put_bits(room, at, m);
+    put_bits(room, at, m.a, m.b, m.c, m.d);
 }
 
 pub fn put12(room: &mut [u8], at: usize, m: Twelve)

@@ -32,9 +32,10 @@ use Rattle.engine.specs.Mirror.{Lower}
 use Rattle.link.proofs.FillLaws.{fill-two}
 use Rattle.pairs.specs.declared.Places.{Places}
 use Rattle.pairs.specs.declared.Mixed.{Mixed}
-use Rattle.pairs.specs.Mirror.{St, st, places, forward-of, flip-by, flipped, mixed, put-two, wire-in, put-wire, and-on, xor-on, not-on, gate-on}
+use Rattle.pairs.specs.Mirror.{St, st, places, further, flip-by, flipped, mixed, put-two, wire-in, put-wire, and-on, xor-on, not-on, gate-on}
+use Rattle.pairs.proofs.PairLaws.{places-eq}
 use Rattle.walk.specs.Mirror.{around, room-with, state}
-use Rattle.walk.proofs.StateLaws.{parts-many, st-eq, places-eq, wire-get, value-get, wire-put, at-own, at-next, at-prev}
+use Rattle.walk.proofs.StateLaws.{parts-many, st-eq, wire-get, value-get, wire-put, at-own, at-next, at-prev}
 
 flip-none : (s : Site) (p : Pair) → flip-by s 0 p ≡ p
 flip-none s1 p = λ i. (xor-zero-r (p .0) i, p .1)
@@ -89,8 +90,7 @@ module _ (s : Site) (C : Circuit) (x y : ℕ → ℕ) (own nx pv B old fresh : L
     unfolding next-state state parts tape ands
     next-suc = refl
 
-    forwards : forward-of here ≡ next-places 1
-    unfolding forward-of
+    forwards : further here 2 ≡ next-places 1
     forwards = places-eq (omega arith) (omega arith) (omega arith)
 
     stays : here ≡ next-places 0
@@ -205,7 +205,7 @@ module _ (s : Site) (C : Circuit) (x y : ℕ → ℕ) (own nx pv B old fresh : L
         mix-of p q u v u′ v′ = mixed own nx pv here (flip2 p) (flip2 q) (bits .add u o) (bits .add v o) (bits .add u′ o) (bits .add v′ o)
 
         abbrev after-mix : Mixed → St
-        after-mix z = st (put-wire n w (pair-of (flipped s o (z .pair))) room) (put-two (here .next) (z .first) (z .second) (fill fresh written)) (forward-of here)
+        after-mix z = st (put-wire n w (pair-of (flipped s o (z .pair))) room) (put-two (here .next) (z .first) (z .second) (fill fresh written)) (further here 2)
 
         -- what the code reads is what the document has
         reads : and-on s own nx pv n a b w o (at-state g) ≡ after-mix (mix-of (getD ms a (0, 0)) (getD ms b (0, 0)) (getD vs a 0) (getD vs b 0) (getD us a 0) (getD us b 0))
@@ -213,7 +213,7 @@ module _ (s : Site) (C : Circuit) (x y : ℕ → ℕ) (own nx pv B old fresh : L
         reads = λ i. after-mix (mix-of (wire-is a ha i) (wire-is b hb i) (first-is a ha i) (first-is b hb i) (second-is a ha i) (second-is b hb i))
 
         mixes : after-mix (mix-of (getD ms a (0, 0)) (getD ms b (0, 0)) (getD vs a 0) (getD vs b 0) (getD us a 0) (getD us b 0))
-            ≡ st (put-wire n w new-pair room) (put-two (here .next) new-first (T .g2 g (next s)) (fill fresh written)) (forward-of here)
+            ≡ st (put-wire n w new-pair room) (put-two (here .next) new-first (T .g2 g (next s)) (fill fresh written)) (further here 2)
         unfolding flipped
         mixes =
             let p : Two = flip2 (getD ms a (0, 0)) in
@@ -221,10 +221,10 @@ module _ (s : Site) (C : Circuit) (x y : ℕ → ℕ) (own nx pv B old fresh : L
             let e = mix-pair p q (bits .add (getD vs a 0) o) (bits .add (getD vs b 0) o) (bits .add (getD us a 0) o) (bits .add (getD us b 0) o) in
             let f = mix-first p q (bits .add (getD vs a 0) o) (bits .add (getD vs b 0) o) (bits .add (getD us a 0) o) (bits .add (getD us b 0) o) in
             let h = mix-second p q (bits .add (getD vs a 0) o) (bits .add (getD vs b 0) o) (bits .add (getD us a 0) o) (bits .add (getD us b 0) o) in
-            λ i. st (put-wire n w (flip-by s o (e i)) room) (put-two (here .next) (f i) (h i) (fill fresh written)) (forward-of here)
+            λ i. st (put-wire n w (flip-by s o (e i)) room) (put-two (here .next) (f i) (h i) (fill fresh written)) (further here 2)
 
         pub and-both : and-on s own nx pv n a b w o (at-state g)
-            ≡ st (put-wire n w new-pair room) (put-two (here .next) new-first (T .g2 g (next s)) (fill fresh written)) (forward-of here)
+            ≡ st (put-wire n w new-pair room) (put-two (here .next) new-first (T .g2 g (next s)) (fill fresh written)) (further here 2)
         and-both = reads ∙ mixes
 
       -- the new tape, written on

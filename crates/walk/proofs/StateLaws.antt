@@ -28,6 +28,7 @@ use Rattle.link.proofs.FillLaws.{fill-two}
 use Rattle.link.proofs.PartLaws.{pair-eq, pair-read, pair-put, part-length, lent-middle, on-middle}
 use Rattle.pairs.specs.declared.Places.{Places}
 use Rattle.pairs.specs.Mirror.{St, st, places, put-two, wire-in, put-wire}
+use Rattle.pairs.proofs.PairLaws.{places-eq}
 use Rattle.walk.specs.Mirror.{around, input-on, room-with, in-state}
 
 -- ---- how many wires
@@ -44,9 +45,6 @@ module _ (C : Circuit) (x : ℕ → ℕ) (T : Draws) where
 
 pub st-eq : {a b c d : List ℕ} {p q : Places} → a ≡ c → b ≡ d → p ≡ q → st a b p ≡ st c d q
 st-eq p q r = λ i. st (p i) (q i) (r i)
-
-pub places-eq : {a b c a′ b′ c′ : ℕ} → a ≡ a′ → b ≡ b′ → c ≡ c′ → places a b c ≡ places a′ b′ c′
-places-eq p q r = λ i. places (p i) (q i) (r i)
 
 -- ---- the work room
 module _ (s : Site) (n : ℕ) (B old : List ℕ) (hB : length B ≡ 2 * n) (ho : length old ≡ 2 * n) where

@@ -21,7 +21,8 @@ use Rattle.messages.specs.declared.Four.{Four}
 use Rattle.steps.specs.Mirror.{on-part}
 use Rattle.engine.proofs.EngineLaws.{ands-room, owned-room}
 use Rattle.pairs.specs.declared.Places.{Places}
-use Rattle.pairs.specs.Mirror.{Fits, St, st, places, forward-of, put-two, and-on, gate-on}
+use Rattle.pairs.specs.Mirror.{Fits, St, st, places, further, put-two, and-on, gate-on}
+use Rattle.pairs.proofs.PairLaws.{further-none, further-add}
 use Rattle.circuit.specs.Loop.{up-to}
 use Rattle.walk.specs.Mirror.{step-own, step-next, step-prev, InFits, Lengths, input-on, gates-on}
 
@@ -102,46 +103,28 @@ in-room C s t a b c m k at e h l q =
     record { one = omega arith; two = omega arith; thr = omega arith; few-own = h .few-own; few-next = h .few-next; few-prev = h .few-prev })
 
 -- ---- the places after gates
-unfoldable pub onward : ℕ → Places → Places
-onward m p = places (p .own + 2 * m) (p .next + 2 * m) (p .prev + 2 * m)
-
-places-eq : {a b c a′ b′ c′ : ℕ} → a ≡ a′ → b ≡ b′ → c ≡ c′ → places a b c ≡ places a′ b′ c′
-places-eq p q r = λ i. places (p i) (q i) (r i)
-
-stays : (p : Places) → p ≡ onward 0 p
-unfolding onward
-stays p = places-eq (omega arith) (omega arith) (omega arith)
-
-forwards : (p : Places) → forward-of p ≡ onward 1 p
-unfolding onward forward-of
-forwards p = places-eq (omega arith) (omega arith) (omega arith)
-
-onward-add : (a b : ℕ) (p : Places) → onward b (onward a p) ≡ onward (a + b) p
-unfolding onward
-onward-add a b p = places-eq (omega arith) (omega arith) (omega arith)
-
 module _ (s : Site) (own nx pv : List ℕ) where
-  gate-moves : (n w : ℕ) (G : Gate) (x : St) → gate-on s own nx pv n w G x .at ≡ onward (dealing G) (x .at)
+  gate-moves : (n w : ℕ) (G : Gate) (x : St) → gate-on s own nx pv n w G x .at ≡ further (x .at) (2 * dealing G)
   unfolding gate-on and-on dealing
-  gate-moves n w (XOR a b) x = stays (x .at)
-  gate-moves n w (NOT a) x = stays (x .at)
-  gate-moves n w (AND a b) x = forwards (x .at)
-  gate-moves n w (OR a b) x = forwards (x .at)
+  gate-moves n w (XOR a b) x = sym (further-none (x .at))
+  gate-moves n w (NOT a) x = sym (further-none (x .at))
+  gate-moves n w (AND a b) x = refl
+  gate-moves n w (OR a b) x = refl
 
   module _ (file : List ℕ) (i n : ℕ) (x : St) where
-    gates-at : (k : ℕ) → gates-on file s own nx pv i n x k .at ≡ onward (ands (circuit file .gate) k) (x .at)
+    gates-at : (k : ℕ) → gates-on file s own nx pv i n x k .at ≡ further (x .at) (2 * ands (circuit file .gate) k)
     unfolding up-to ands
-    gates-at zero = stays (x .at)
+    gates-at zero = sym (further-none (x .at))
     gates-at (suc k) =
         gate-moves n (i + k) (circuit file .gate k) (gates-on file s own nx pv i n x k)
-        ∙ ap (onward (dealing (circuit file .gate k))) (gates-at k)
-        ∙ onward-add (ands (circuit file .gate) k) (dealing (circuit file .gate k)) (x .at)
+        ∙ ap (λ (z : Places). further z (2 * dealing (circuit file .gate k))) (gates-at k)
+        ∙ further-add (x .at) (2 * ands (circuit file .gate) k) (2 * dealing (circuit file .gate k))
+        ∙ ap (further (x .at)) (omega arith)
 
     pub gate-room : (y : St) (k g : ℕ) → k < g → Fits (ands (circuit file .gate) g) (length own) (length nx) (length pv) (x .at)
         → y ≡ gates-on file s own nx pv i n x k → Fits (dealing (circuit file .gate k)) (length own) (length nx) (length pv) (y .at)
-    unfolding onward
     gate-room y k g h o q =
-        let m : y .at ≡ onward (ands (circuit file .gate) k) (x .at) = ap (λ (z : St). z .at) q ∙ gates-at k in
+        let m : y .at ≡ further (x .at) (2 * ands (circuit file .gate) k) = ap (λ (z : St). z .at) q ∙ gates-at k in
         let a = ands-room (circuit file .gate) k g h in
         let e1 : y .at .own ≡ x .at .own + 2 * ands (circuit file .gate) k = ap (λ (z : Places). z .own) m in
         let e2 : y .at .next ≡ x .at .next + 2 * ands (circuit file .gate) k = ap (λ (z : Places). z .next) m in

@@ -35,10 +35,11 @@ use Rattle.circuit.specs.Checked.{Checked}
 use Rattle.engine.specs.Mirror.{Lower}
 use Rattle.engine.proofs.EngineLaws.{lower-of, ands-room, owned-room}
 use Rattle.pairs.specs.Mirror.{Fits, St, gate-on}
+use Rattle.pairs.proofs.PairLaws.{places-eq}
 use Rattle.circuit.specs.Loop.{up-to}
 use Rattle.walk.specs.Mirror.{around, InFits, Lengths, input-on, room-with, in-state, state, gates-on, Walked}
 use Rattle.walk.proofs.StepLaws.{in-room}
-use Rattle.walk.proofs.StateLaws.{parts-many, st-eq, places-eq, in-law}
+use Rattle.walk.proofs.StateLaws.{parts-many, st-eq, in-law}
 use Rattle.walk.proofs.GateLaw.{gate-law}
 
 -- ---- inputs, in a file as it was opened

@@ -8,7 +8,7 @@ ghost use Rattle.scope.specs.File.{circuit, site-of};
 ghost use Rattle.scope.specs.Calls.{at-wire, both-plain};
 ghost use Rattle.scope.specs.Statements.{Bits};
 ghost use Rattle.circuit.specs.Checked.{Checked};
-ghost use Rattle.pairs.specs.Mirror.{Fits, st};
+ghost use Rattle.pairs.specs.Mirror.{Fits, st, further};
 ghost use Rattle.walk.specs.Mirror.{InFits, Lengths, input-on, in-state, gates-on, Walked};
 use header::Counts;
 use messages::Two;
@@ -124,20 +124,20 @@ fn gates_pass(
     room: &mut [u8],
     moved: &mut [u8],
     start: Places,
-) -> Places
+) -> usize
     requires { ⌜ Checked (now file) c ⌝ }
     requires { ⌜ (length (now room) ≡ 4 * (c .inputs + c .gates)) × (length (now moved) ≡ length (now next)) ⌝ }
     requires { ⌜ Fits (ands (circuit (now file) .gate) (c .gates)) (length (now own)) (length (now next)) (length (now prev)) start ⌝ }
-    ensures { λ r. ⌜ st (now (room .exit)) (now (moved .exit)) r ≡ gates-on (now (file .entry)) (site-of site) (now (own .entry)) (now (next .entry)) (now (prev .entry)) (c .inputs) (c .inputs + c .gates) (st (now (room .entry)) (now (moved .entry)) start) (c .gates) ⌝ }
+    ensures { λ r. ⌜ st (now (room .exit)) (now (moved .exit)) (further start r) ≡ gates-on (now (file .entry)) (site-of site) (now (own .entry)) (now (next .entry)) (now (prev .entry)) (c .inputs) (c .inputs + c .gates) (st (now (room .entry)) (now (moved .entry)) start) (c .gates) ⌝ }
 {
     let n = c.gates;
-    let mut at = start;
+    let mut t: usize = 0;
     let mut k: usize = 0;
     while k < n {
-        at = pairs::gate_step(file, c, site, own, next, prev, room, moved, k, at);
+        t = pairs::gate_step(file, c, site, own, next, prev, room, moved, k, start, t);
         k += 1;
     }
-    at
+    t
 }
 
 // Both passes, over a work room whose first 2W bytes are both sets of plain values: the site's pairs behind them, and the next site's new

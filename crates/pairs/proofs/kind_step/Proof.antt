@@ -4,7 +4,7 @@ use Prim.Native.Nat.{ℕ}
 use Rattle.sharing.specs.Circuit.{Gate}
 use Rattle.scope.specs.File.{site-of}
 use Rattle.engine.proofs.EngineLaws.{xor-kind, not-kind, and-or-kind, and-or-lower, and-or-deals}
-use Rattle.pairs.specs.Mirror.{st, and-on, gate-on}
+use Rattle.pairs.specs.Mirror.{st, further, and-on, gate-on}
 use Rattle.pairs.proofs.kind_step.Statement.{statement}
 use Rattle.pairs.proofs.kind_step.Tie as tie
 
@@ -35,7 +35,7 @@ and-gate-requires c κs =
 returns-3 : tie.Need-returns-3
 unfolding gate-on
 returns-3 c =
-    let a = c .before .before .before .before .before .before .before .before .before .before .before .before .before .before .before .args in let x = st (a .room .now) (a .moved .now) (a .at) in
+    let a = c .before .before .before .before .before .before .before .before .before .before .before .before .before .before .before .args in let x = st (a .room .now) (a .moved .now) (further (a .from) (a .t)) in
     (c .before .before .before .before .and-gate .ensures) ∙ sym (and-or-kind (λ (g : Gate). gate-on (site-of (a .site)) (a .own .now) (a .next .now) (a .prev .now) (a .n) (a .w) g x) (λ (o : ℕ). and-on (site-of (a .site)) (a .own .now) (a .next .now) (a .prev .now) (a .n) (a .a) (a .b) (a .w) o x) (a .kind) (a .a) (a .b) _ (c .before .before .before .before .before .before .before .before .before .if1 .left) (c .before .before .before .before .before .before .before .before .if2 .left) (c .before .before .before .before .before .before .before .or-bit .ensures) refl refl)
 
 pub kind-step-spec : {M : Type 1} → statement M

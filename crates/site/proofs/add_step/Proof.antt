@@ -5,22 +5,14 @@ use Rattle.site.proofs.add_step.Tie as tie
 
 returns : tie.Need-returns
 unfolding add-at
-returns c = c .before .before .put-pair .ensures
+returns c = rw (c .before .before .before .before .before .before .before .before .pair-of2 .ensures) at (rw (c .before .before .before .before .before .before .before .before .before .before .pair-of .ensures) at (c .before .before .put-pair .ensures))
 
 pub add-step-spec : {M : Type 1} → statement M
 add-step-spec =
     tie.close
     (tie.spec
-    (λ c. search needs)
-    (λ c. search needs)
-    (λ c. search needs)
-    (λ c. search needs)
-    (λ c. search needs)
-    (λ c. search needs)
-    (λ c. search needs)
-    (λ c. search needs)
-    (λ c. search needs)
-    (λ c. search needs)
+    (λ c κs. search needs)
+    (λ c κs. search needs)
     (λ c κs. search needs)
     (λ c. search needs)
     returns)

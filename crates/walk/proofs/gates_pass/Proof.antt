@@ -1,9 +1,10 @@
 use borrow.Author.Needs.{needs}
-use mathlib.Core.Path.{_≡_, refl, _∙_}
+use mathlib.Core.Path.{_≡_, refl, ap, _∙_}
 use Prim.Native.Nat.{_-_, _+_, _≤_}
 use lib.ListN.{length}
 use Rattle.scope.specs.File.{site-of}
-use Rattle.pairs.specs.Mirror.{st}
+use Rattle.pairs.specs.Mirror.{st, further}
+use Rattle.pairs.proofs.PairLaws.{further-none}
 use Rattle.circuit.specs.Loop.{up-to}
 use Rattle.circuit.proofs.LoopLaws.{none-yet, turn, at-end}
 use Rattle.walk.specs.Mirror.{gates-on}
@@ -12,14 +13,15 @@ use Rattle.walk.proofs.gates_pass.Statement.{statement}
 use Rattle.walk.proofs.gates_pass.Tie as tie
 
 abbrev Inv-loop : tie.InvT-loop
-Inv-loop file c site own next prev room₀ moved₀ n at₀ k₀ room moved at k =
-    (k ≤ n) × (st room moved at ≡ gates-on file (site-of site) own next prev (c .inputs) (c .inputs + c .gates) (st room₀ moved₀ at₀) k) × (length room ≡ length room₀) × (length moved ≡ length moved₀)
+Inv-loop file c site own next prev room₀ moved₀ start n t₀ k₀ room moved t k =
+    (k ≤ n) × (st room moved (further start t) ≡ gates-on file (site-of site) own next prev (c .inputs) (c .inputs + c .gates) (st room₀ moved₀ start) k) × (length room ≡ length room₀) × (length moved ≡ length moved₀)
 
 abbrev μ-loop : tie.MeasureT-loop
-μ-loop file c site own next prev room₀ moved₀ n at₀ k₀ room moved at k = n - k
+μ-loop file c site own next prev room₀ moved₀ start n t₀ k₀ room moved t k = n - k
 
 loop-holds : tie.Need-loop-holds Inv-loop μ-loop
-loop-holds c = (search needs, none-yet _ _, refl, refl)
+loop-holds c =
+    let a = c .before .before .before .before .before .before .args in (search needs, ap (st (a .room .now) (a .moved .now)) (further-none (a .start)) ∙ none-yet _ _, refl, refl)
 
 gate-step-requires : tie.Need-gate-step-requires Inv-loop μ-loop
 gate-step-requires c κs =
