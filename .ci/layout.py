@@ -5,7 +5,7 @@
 - A public call is a function whose comment begins "PUBLIC.". Each such mark has its function, none has a `requires`, each cites `does (`
   in its promise (a question to a reader `read-as (`), and docs/STATEMENTS.md has exactly these functions in its table.
 - No function over a Reader that a caller outside can reach has a `requires`: anybody can make a Reader.
-- Every must-fail edit says in its first line what wrong program it is.
+- Every must-fail edit says in its first line what wrong program it is, and each text that it changes stands once where it says.
 - Sources are in the toolchain's layout (`rt fmt --check`).
 """
 
@@ -89,6 +89,26 @@ def public_problems():
             yield f"{path}: {name} is over a Reader, can be reached from outside and has a requires"
 
 
+PART = re.compile(r"^(file|old|new): ?(.*?)\n?(?=^(?:file|old|new):|\Z)", re.S | re.M)
+
+
+def edit_problems(path):
+    """Of a must-fail edit. Its changes are made one after the other, as rt makes them."""
+    text = path.read_text()
+    if re.match(r"(file|old|new):", text) or not text.split("\n")[0].strip():
+        yield "does not say what it is"
+    source = old = ""
+    for key, value in PART.findall(text):
+        if key == "file":
+            source = (path.parent.parent / value.strip()).read_text()
+        elif key == "old":
+            old = value
+            if source.count(old) != 1:
+                yield f"changes a text that stands there {source.count(old)} times: {old}"
+        else:
+            source = source.replace(old, value)
+
+
 def problems():
     yield from public_problems()
     folders = {path.name for path in (ROOT / "crates").iterdir() if path.is_dir()}
@@ -99,9 +119,8 @@ def problems():
             if re.match(r"\s*axiom\b", line):
                 yield f"{path.relative_to(ROOT)}:{number}: an axiom"
     for path in sorted((ROOT / "crates").glob("*/must-fail/*.edit")):
-        first = path.read_text().split("\n")[0]
-        if re.match(r"(file|old|new):", first) or not first.strip():
-            yield f"{path.relative_to(ROOT)} does not say what it is"
+        for problem in edit_problems(path):
+            yield f"{path.relative_to(ROOT)} {problem}"
     done = subprocess.run(["rt", "fmt", "--check"], cwd=ROOT, capture_output=True, text=True)
     if done.returncode:
         yield "rt fmt --check: " + (done.stdout + done.stderr).strip()

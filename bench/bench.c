@@ -1,12 +1,14 @@
 /* Times the proved engine (libpanel.a) beside the plain one (engine.c), call by call, in one process.
 
        bench [ratios]
+       bench call CIRCUIT CALL ENGINE
 
    A sample is a run of calls long enough for the clock. Samples of all circuits, both engines and all places take turns, so that whatever else
    the machine does falls on all of them alike; a time is the median of its samples, and a ratio the median of the ratios of samples taken side
    by side. Each engine is there PLACES times, 16 bytes apart from line to line: on some processors a loop is twice as slow where one of its
    jumps crosses a line of 32 bytes, which is the linker's doing and neither engine's. Of the places the one with the least median counts, for
-   each call, circuit and engine. With `ratios` no times are printed: under an emulator they say nothing. */
+   each call, circuit and engine. With `ratios` no times are printed: under an emulator they say nothing. With `call` one call is
+   made at the last place, where nothing else is, for a counter of instructions to look at. */
 #include "engine.h"
 
 #include <stdio.h>
@@ -360,6 +362,8 @@ int main(int count, char **words)
         prepare(&jobs[c], &circuits[c]);
         hold(&jobs[c]);
     }
+    if (count == 5 && !strcmp(words[1], "call"))
+        return (int)make_call(&jobs[words[2][0] - '0'], (unsigned)(words[3][0] - '0'), (unsigned)(words[4][0] - '0'), PLACES - 1);
     for (unsigned call = 0; call < CALLS; call++)
         measure(jobs, call);
 
