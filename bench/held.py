@@ -33,7 +33,8 @@ def main():
         subprocess.run([door.tool("cc"), *warned, *include, "-c", "-o", engine, os.path.join(HERE, "engine.c")], check=True)
         subprocess.run([door.tool("cc"), *warned, *include, *RENAMED, "-o", program,
                         *(os.path.join(check.HERE, source) for source in door.SOURCES), engine, door.LIBRARY], check=True)
-        if door.printed(program, trials.stored("stdin")) != trials.stored("stdout"):
+        stream, text = trials.stored_for_c()
+        if door.printed(program, stream) != text:
             door.fail("the plain engine answers something else")
     print("plain engine ok, the stored stream")
 

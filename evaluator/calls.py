@@ -120,6 +120,18 @@ def call_listing(whole_job):
     return _call(11, 0, whole_job)
 
 
+def call_gate_read(file, counts, number):
+    return _call(12, number, file, counts)
+
+
+def call_owner_read(file, counts, number):
+    return _call(13, number, file, counts)
+
+
+def call_output_read(file, counts, number):
+    return _call(14, number, file, counts)
+
+
 # The same calls for a good circuit, lent buffers of the right lengths with
 # odd bytes in them.
 

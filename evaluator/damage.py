@@ -22,9 +22,14 @@ GIVEN = {
     "run": ["inputs", "tapes", "line"],
     "view": ["inputs", "tapes"],
     "retape": ["inputs", "tapes", "second"],
+    "gate_read": ["counts"],
+    "owner_read": ["counts"],
+    "output_read": ["counts"],
 }
+# The questions to a reader: a file, and counts that anybody put beside it.
+READERS = ["gate_read", "owner_read", "output_read"]
 NAMES = ["open", "gate", "owner", "output", "check", "plain", "run", "view",
-         "retape", "traffic", "listing"]
+         "retape", "traffic", "listing", *READERS]
 ODD_NUMBERS = [0, 1, 2, 3, 4, 5, 15, 16, 17, 31, 32, 33, 255, 256, 257, 1024,
                1025, 3072, 3073, 65535, 65536, 65537, 2**31, 2**32 - 1]
 
@@ -127,13 +132,27 @@ def check_same(circuit, inputs, second, site):
     return None
 
 
+def check_counts(case):
+    """A reader's counts that are unlike the file's: as a field that is not
+    as it should be."""
+    if case["call"] in READERS:
+        for at in (0, 4, 8):
+            if case["counts"][at:at + 4] != case["file"][4 + at:8 + at]:
+                return 3, 4 + at
+    return None
+
+
+def question_of(case):
+    return case["call"].removesuffix("_read")
+
+
 def check_query(case):
-    refusal = check_header(case["file"])
+    refusal = check_header(case["file"]) or check_counts(case)
     if refusal:
         return refusal
     circuit = read(case["file"])
     number, part = {"owner": (4, circuit.owners), "gate": (5, circuit.gates),
-                    "output": (6, circuit.outputs)}[case["call"]]
+                    "output": (6, circuit.outputs)}[question_of(case)]
     return (number, len(part)) if case["number"] >= len(part) else None
 
 
@@ -191,7 +210,7 @@ def refusal_of(case):
         return check_job(case)
     if name == "open":
         return check_header(case["file"])
-    if name in ("gate", "owner", "output"):
+    if name in ("gate", "owner", "output", *READERS):
         return check_query(case)
     refusal = check_circuit(case["file"])
     if refusal or name in ("check", "traffic"):
@@ -245,10 +264,11 @@ def draw_call(rng, name, circuit):
                         for s, b in zip(circuit.owners, inputs)),
     }
     case["job"] = calls.job(case["file"], inputs, case["tapes"])
+    case["counts"] = case["file"][4:16]
     for part, length in zip(LENT.get(name, []),
                             lent_lengths(name, circuit, site)):
         case[part + " lent"] = rng.randbytes(length)
-    if name in ("gate", "owner", "output"):
+    if name in ("gate", "owner", "output", *READERS):
         case["number"] = rng.choice([rng.randrange(6)] * 3 + ODD_NUMBERS)
     return case
 
@@ -286,6 +306,8 @@ def damage(rng, case):
         part = "job"
     if part == "number":
         case["number"] = rng.choice(ODD_NUMBERS)
+    elif part == "counts":
+        case[part] = other_field(rng, case[part], 3)
     elif part in ("file", "job") and rng.random() < 0.5:
         fields = 8 if part == "file" else 4
         case[part] = other_field(rng, case[part], fields)
@@ -314,9 +336,9 @@ def draw_largest(rng):
     cases = [draw_call(rng, name, circuit) for name in NAMES]
     for case in cases:
         case["second"] = case["inputs"][:256] + case["second"][256:]
-    job = cases[-1]["job"]
-    longer = calls.u32(len(job) + 1) + job[4:] + b"\0"
-    return cases + [dict(cases[-1], job=longer)]
+    listing = cases[NAMES.index("listing")]
+    longer = calls.u32(len(listing["job"]) + 1) + listing["job"][4:] + b"\0"
+    return cases + [dict(listing, job=longer)]
 
 
 def stream_of(case):
@@ -328,6 +350,8 @@ def stream_of(case):
     if name in ("gate", "owner", "output"):
         return getattr(calls, "call_" + name)(case["file"], case["number"])
     given = [case["file"]] + [case[part] for part in GIVEN[name]]
+    if name in READERS:
+        return getattr(calls, "call_" + name)(*given, case["number"])
     lent = [case[part + " lent"] for part in LENT[name]]
     site = [case["number"]] if name in ("view", "retape") else []
     return getattr(calls, "call_" + name)(*given, *site, *lent)
@@ -455,10 +479,10 @@ def wrong_numbers(case, answer):
     if name in ("open", "check"):
         numbers = [len(circuit.owners), len(circuit.gates),
                    len(circuit.outputs)]
-    elif name == "gate":
+    elif question_of(case) == "gate":
         numbers = circuit.gates[n]
     else:
-        numbers = [(circuit.owners if name == "owner"
+        numbers = [(circuit.owners if question_of(case) == "owner"
                     else circuit.outputs)[n]]
     wanted = " ".join(map(str, [name, "good", *numbers]))
     return None if answer == wanted else "the numbers"
@@ -497,7 +521,7 @@ def wrong(case, answer, lines):
         case["inputs"] = case["job"][second:third]
     case["circuit"] = read(case["file"])
     after = buffers_of(case, lines)
-    if name in ("open", "check", "gate", "owner", "output"):
+    if name in ("open", "check", "gate", "owner", "output", *READERS):
         return wrong_numbers(case, answer)
     if name == "run":
         return wrong_run(case, answer, after)

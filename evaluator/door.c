@@ -321,6 +321,24 @@ static void check_unfit(struct held job, size_t length, struct bakebutton_listin
         wrong("a listing's answer for a buffer of another length");
 }
 
+/* A reader is a struct that C does not have. */
+struct answer gate_read_call(struct slice file, struct slice counts, uint32_t n)
+{
+    (void)file, (void)counts, (void)n;
+    wrong("a call that the library has not");
+    return good();
+}
+
+struct answer owner_read_call(struct slice file, struct slice counts, uint32_t n)
+{
+    return gate_read_call(file, counts, n);
+}
+
+struct answer output_read_call(struct slice file, struct slice counts, uint32_t n)
+{
+    return gate_read_call(file, counts, n);
+}
+
 struct answer listing_call(struct slice job, char text[LISTING_ROOM])
 {
     static uint8_t filled[BAKEBUTTON_TEXT_BYTES];

@@ -2,7 +2,7 @@
 
     python3 -B evaluator/door.py
 
-makes the calls of the stored stream (crates/trials/stdin), and drawn ones, through target/staticlib/libpanel.a, with every slice in memory of
+makes the calls of the stored stream (crates/trials/stdin) but those to a reader, and drawn ones, through target/staticlib/libpanel.a, with every slice in memory of
 its own beside memory that may not be touched (door.c), and C's side under the compiler's sanitizers where they can be had. What is printed
 must be the evaluator's text.
 """
@@ -55,14 +55,14 @@ def printed(program, stream):
 
 def drawn():
     rng = random.Random(SEED)
-    cases = [damage.draw_case(rng) for _ in range(CASES)]
-    return b"".join(map(damage.stream_of, cases + damage.draw_largest(rng)))
+    cases = [damage.draw_case(rng) for _ in range(CASES)] + damage.draw_largest(rng)
+    return b"".join(damage.stream_of(case) for case in cases if case["call"] not in damage.READERS)
 
 
 def main():
     if subprocess.run([tool("library")]).returncode:
         fail("the library could not be built")
-    streams = {"stored": (trials.stored("stdin"), trials.stored("stdout"))}
+    streams = {"stored": trials.stored_for_c()}
     with tempfile.TemporaryDirectory() as folder:
         evaluator = check.compiled(folder, "evaluator", [*check.SOURCES, "stream.c"], ["-O2"])
         more = drawn()

@@ -8,7 +8,8 @@ import struct
 import damage
 import together
 
-QUESTIONS = {"owner": 4, "gate": 5, "output": 6}
+QUESTIONS = {"owner": 4, "gate": 5, "output": 6, "owner_read": 4,
+             "gate_read": 5, "output_read": 6}
 CHECKED = ["check", "traffic", "run", "listing", "plain", "view",
            "retape"]  # these make 1 to 6
 BITS = {"run": (7, 8, 9), "listing": (7, 8), "plain": (7,), "view": (7, 8),
@@ -35,6 +36,8 @@ def needed_of(name):
     yield from (f"{name} refused {n} {p}" for n, p in HEADER)
     if name in QUESTIONS:
         yield f"{name} refused {QUESTIONS[name]} at the count"
+    if name in damage.READERS:
+        yield from (f"{name} refused 3 {p}" for p in (4, 8, 12))
     if name in CHECKED:
         yield from (f"{name} refused {n} {where}"
                     for n in (4, 5, 6) for where in WHERE)

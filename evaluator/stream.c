@@ -7,7 +7,7 @@
 #include <stdlib.h>
 #include <string.h>
 
-enum { MOST_SLICES = 7, MOST_LENT = 3, MOST_CALLS = 11, PIECE = 65536 };
+enum { MOST_SLICES = 7, MOST_LENT = 3, MOST_CALLS = 14, PIECE = 65536 };
 
 /* The slices of a call; the lent ones come last. */
 struct form {
@@ -29,6 +29,9 @@ static const struct form forms[MOST_CALLS + 1] = {
     {"retape", 6, {"tapes", "room", 0}},
     {"traffic", 1, {0}},
     {"listing", 1, {0}},
+    {"gate_read", 2, {0}},
+    {"owner_read", 2, {0}},
+    {"output_read", 2, {0}},
 };
 
 /* What one call is given, and what it gives back beside its answer. */
@@ -100,7 +103,10 @@ static struct answer make_call(struct call *call)
     case 9:
         return retape_call(p[0], p[1], p[2], p[3], call->number, p[4], p[5]);
     case 10: return traffic_call(p[0], call->table);
-    default: return listing_call(p[0], call->text);
+    case 11: return listing_call(p[0], call->text);
+    case 12: return gate_read_call(p[0], p[1], call->number);
+    case 13: return owner_read_call(p[0], p[1], call->number);
+    default: return output_read_call(p[0], p[1], call->number);
     }
 }
 

@@ -21,6 +21,7 @@ import check   # noqa: E402
 import damage  # noqa: E402
 import files   # noqa: E402
 import kinds   # noqa: E402
+import readers  # noqa: E402
 import runs    # noqa: E402
 import together  # noqa: E402
 import views   # noqa: E402
@@ -28,10 +29,11 @@ import views   # noqa: E402
 CRATE = os.path.join(check.HERE, os.pardir, "crates", "trials")
 # The calls that the program makes.  One that is not here is left out of the
 # stream and of the kinds of answers.
-MADE = [*files.NAMES, "run", "listing", "plain", "view", "retape"]
+MADE = [*files.NAMES, "run", "listing", "plain", "view", "retape",
+        *damage.READERS]
 # So many calls of these together there must be.
 LEAST = {("run", "listing"): 3000, ("plain",): 600, ("view",): 1000,
-         ("retape",): 1500}
+         ("retape",): 1500, tuple(damage.READERS): 600}
 EXAMPLES = ["K1 run", "K1 plain", "K1 listing", "K2", "K3", "K4", "K5", "K6",
             "K7", "K8", "K9", "K10", "K11 AND 0 2", "K11 AND 0 0", "K12",
             "tapes one short", "tapes one long", "empty run", "empty plain",
@@ -45,10 +47,11 @@ def marked():
 
 
 def cases():
-    """All calls of the stream: the marked ones come first."""
+    """All calls of the stream: the marked ones come first, those to a reader
+    last."""
     return [case for case in [*(case for _, case in marked()),
                               *files.cases(), *runs.cases(),
-                              *views.cases()]
+                              *views.cases(), *readers.cases()]
             if case["call"] in MADE]
 
 
@@ -69,6 +72,16 @@ def stored(name):
             return file.read()
     except OSError as error:
         fail(f"crates/trials/{name}: {error.strerror}")
+
+
+def stored_for_c():
+    """The stored stream and text without the calls to a reader, which is a
+    struct that C does not have."""
+    asked = [case for case in cases() if case["call"] in damage.READERS]
+    stream, text = stored("stdin"), stored("stdout")
+    lines = text.splitlines(keepends=True)
+    return (stream[:-len(stream_of(asked))],
+            b"".join(lines[:-len(asked)]))
 
 
 def held(name, wanted, whose):

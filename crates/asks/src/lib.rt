@@ -1,3 +1,5 @@
-// Trials of the calls that take the circuit, alone or with inputs: those with one slice, and plain values.
+// Trials of the calls that take the circuit, alone, with a reader's counts or with inputs: those with one slice, the questions to a reader,
+// and plain values.
+pub mod readers;
 pub mod single;
 pub mod values;

@@ -1,7 +1,5 @@
 // The calls that take one slice. Each has a function, which prints the call's name and its answer.
-use circuit::Gate;
-use circuit::Output;
-use circuit::Owner;
+use crate::readers;
 use header::Header;
 use stream::input;
 use stream::print;
@@ -44,30 +42,17 @@ fn open(file: &[u8]) {
 
 fn gate(file: &[u8], k: usize) {
     print::word(b"gate");
-    match reader::gate_of(file, k) {
-        Gate::Is(kind, first, second) => print::good_three(
-            kind as usize,
-            first as usize,
-            second as usize,
-        ),
-        Gate::Refused(n, p) => print::refused(n, p),
-    }
+    readers::gate_told(reader::gate_of(file, k));
 }
 
 fn owner(file: &[u8], k: usize) {
     print::word(b"owner");
-    match reader::owner_of(file, k) {
-        Owner::Is(site) => print::good_one(site as usize),
-        Owner::Refused(n, p) => print::refused(n, p),
-    }
+    readers::owner_told(reader::owner_of(file, k));
 }
 
 fn output(file: &[u8], k: usize) {
     print::word(b"output");
-    match reader::output_of(file, k) {
-        Output::Is(wire) => print::good_one(wire as usize),
-        Output::Refused(n, p) => print::refused(n, p),
-    }
+    readers::output_told(reader::output_of(file, k));
 }
 
 fn check(file: &[u8]) {

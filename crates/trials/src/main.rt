@@ -4,6 +4,7 @@ mod retapes;
 mod several;
 mod views;
 
+use asks::readers;
 use asks::single;
 use asks::values;
 use stream::input;
@@ -13,7 +14,7 @@ use stream::print;
 // Whether there is a call of this number.
 fn made(which: usize) -> bool {
     match which {
-        1..=11 => true,
+        1..=14 => true,
         _ => false,
     }
 }
@@ -43,6 +44,7 @@ fn make(which: usize, number: usize) -> bool {
         8 => views::view(number),
         9 => retapes::retape(number),
         11 => jobs::listing(),
+        12..=14 => readers::call(which, number),
         _ => single::call(which, number),
     }
 }
