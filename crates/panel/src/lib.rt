@@ -2,22 +2,10 @@
 // there; an answer is a struct of numbers, by value: 0 good, 100 abort with output and sites, else a refusal's number and place.
 ghost use mathlib.Core.Path.{_≡_};
 ghost use mathlib.Core.List.{[], _∷_};
-ghost use Prim.Native.Nat.{_≤_};
-ghost use lib.ListN.{length, take};
-ghost use Rattle.sharing.specs.Store.{fill};
-ghost use Rattle.scope.specs.File.{circuit};
 ghost use Rattle.scope.specs.Calls.{Open, GateAt, OwnerAt, OutputAt, Check, Plain, Run, View, Retape, Traffic, Listing, does};
-ghost use Rattle.header.specs.Opened.{Opened};
-ghost use Rattle.checks.specs.Answers.{done-answer};
-ghost use Rattle.run.specs.Answers.{run-answer};
-ghost use Rattle.listing.specs.Answers.{listed-answer, text-length};
-ghost use Rattle.told.specs.Told.{told, Tells, told-counts, told-gate, told-owner, told-output, told-traffic, text-told, unfit, told-listing, text-left};
-ghost use Rattle.told.specs.Sizes.{sizes-of, sized};
-use checks::Done;
-use header::Counts;
+ghost use Rattle.told.specs.Told.{Tells, told-counts, told-gate, told-owner, told-output, told-traffic, told-listing, text-left};
+ghost use Rattle.told.specs.Sizes.{sized};
 use header::Header;
-use listing::Listed;
-use run::Ran;
 use told::Answer;
 use told::CountsAnswer;
 use told::GateAnswer;
@@ -26,80 +14,6 @@ use told::OutputAnswer;
 use told::OwnerAnswer;
 use told::SizesAnswer;
 use told::TrafficAnswer;
-
-// Each call's enum, as numbers.
-fn done_told(a: Done) -> Answer
-    ensures { λ r. ⌜ r ≡ told (done-answer a) ⌝ }
-{
-    match a {
-        Done::Good => told::good_told(),
-        Done::Refused(number, place) => told::refused_told(number, place),
-    }
-}
-
-fn run_told(a: Ran) -> Answer
-    ensures { λ r. ⌜ r ≡ told (run-answer a) ⌝ }
-{
-    match a {
-        Ran::Good => told::good_told(),
-        Ran::Abort(output, sites) => told::abort_told(output, sites),
-        Ran::Refused(number, place) => told::refused_told(number, place),
-    }
-}
-
-// The lengths for a circuit that was checked.
-fn sizes(file: &[u8], c: Counts) -> SizesAnswer
-    requires { ⌜ Opened (now file) c ⌝ }
-    ensures { λ r. ⌜ r ≡ sizes-of (circuit (now (file .entry))) ⌝ }
-{
-    let a = tally::count_ands(file, c);
-    let s1 = tally::count_owned(file, c, 1);
-    let s2 = tally::count_owned(file, c, 2);
-    let s3 = tally::count_owned(file, c, 3);
-    told::sizes_from(c, a, s1, s2, s3)
-}
-
-// A listing's answer with the length of its text; where the lent buffer is not of its length, there is none.
-fn text_told(a: Listed) -> ListingAnswer
-    ensures { λ r. ⌜ r ≡ text-told (listed-answer a) (text-length a) ⌝ }
-{
-    match a {
-        Listed::Good(length) => ListingAnswer {
-            number: 0,
-            place: 0,
-            length,
-        },
-        Listed::Refused(number, place, length) => ListingAnswer {
-            number,
-            place,
-            length,
-        },
-    }
-}
-
-fn text_unfit(a: Listed) -> ListingAnswer
-    ensures { λ r. ⌜ r ≡ unfit (listed-answer a) ⌝ }
-{
-    match a {
-        Listed::Good(_) => ListingAnswer {
-            number: 10,
-            place: 0,
-            length: 0,
-        },
-        Listed::Refused(number, place, _) => ListingAnswer {
-            number,
-            place,
-            length: 0,
-        },
-    }
-}
-
-fn put_room(room: &[u8; 2624], n: usize, text: &mut [u8])
-    requires { ⌜ (n ≤ length (now room)) × (length (now text) ≡ 2624) ⌝ }
-    ensures { λ _. ⌜ now (text .exit) ≡ fill (now (text .entry)) (take n (now (room .entry))) ⌝ }
-{
-    told::put_text(room, n, text);
-}
 
 // PUBLIC. The reader is opened: checks 1 to 3, and the counts.
 #[no_mangle]
@@ -153,7 +67,7 @@ pub extern "C" fn bakebutton_sizes(file: &[u8]) -> SizesAnswer
 {
     let h = checks::check_file(file);
     match h {
-        Header::Good(c) => sizes(file, c),
+        Header::Good(c) => replies::sizes(file, c),
         Header::Refused(number, place) => told::no_sizes(number, place),
     }
 }
@@ -164,7 +78,7 @@ pub extern "C" fn bakebutton_plain(file: &[u8], inputs: &[u8], values: &mut [u8]
     ensures { λ r. ⌜ Tells r (now (values .exit) ∷ []) (Plain (now (file .entry)) (now (inputs .entry)) (now (values .entry))) ⌝ }
 {
     let a = plain::plain_values(file, inputs, values);
-    done_told(a)
+    replies::done_told(a)
 }
 
 // PUBLIC. The run of the three sites on a line.
@@ -181,7 +95,7 @@ pub extern "C" fn bakebutton_run(
     ensures { λ r. ⌜ Tells r (now (outputs .exit) ∷ now (transcript .exit) ∷ now (store .exit) ∷ []) (Run (now (file .entry)) (now (inputs .entry)) (now (tapes .entry)) (now (line .entry)) (now (outputs .entry)) (now (transcript .entry)) (now (store .entry))) ⌝ }
 {
     let a = run::run(file, inputs, tapes, line, outputs, transcript, store);
-    run_told(a)
+    replies::run_told(a)
 }
 
 // PUBLIC. What a site sees of a run on a clean line.
@@ -197,7 +111,7 @@ pub extern "C" fn bakebutton_view(
     ensures { λ r. ⌜ Tells r (now (view .exit) ∷ now (store .exit) ∷ []) (View (now (file .entry)) (now (inputs .entry)) (now (tapes .entry)) site (now (view .entry)) (now (store .entry))) ⌝ }
 {
     let a = view::view_of(file, inputs, tapes, site, view, store);
-    done_told(a)
+    replies::done_told(a)
 }
 
 // PUBLIC. Re-taping: the tapes that explain a site's view by other inputs.
@@ -214,7 +128,7 @@ pub extern "C" fn bakebutton_retape(
     ensures { λ r. ⌜ Tells r (now (fresh .exit) ∷ now (room .exit) ∷ []) (Retape (now (file .entry)) (now (inputs .entry)) (now (tapes .entry)) (now (second .entry)) site (now (fresh .entry)) (now (room .entry))) ⌝ }
 {
     let a = retape::retape(file, inputs, tapes, second, site, fresh, room);
-    done_told(a)
+    replies::done_told(a)
 }
 
 // PUBLIC. The table of sent bits, all zeros at a refusal.
@@ -249,9 +163,9 @@ pub extern "C" fn bakebutton_listing(job: &[u8], text: &mut [u8]) -> ListingAnsw
     let mut room = [0u8; 2624];
     let a = listing::listing(job, &mut room);
     if text.len() != 2624 {
-        return text_unfit(a);
+        return replies::text_unfit(a);
     }
-    let r = text_told(a);
-    put_room(&room, r.length, text);
+    let r = replies::text_told(a);
+    replies::put_room(&room, r.length, text);
     r
 }

@@ -3,8 +3,8 @@ use mathlib.Core.Path.{sym, ap, _∙_}
 use Rattle.run.specs.declared.Ran.{Ran}
 use Rattle.run.specs.Answers.{run-answer}
 use Rattle.told.specs.Told.{told}
-use Rattle.panel.proofs.run_told.Statement.{statement}
-use Rattle.panel.proofs.run_told.Tie as tie
+use Rattle.replies.proofs.run_told.Statement.{statement}
+use Rattle.replies.proofs.run_told.Tie as tie
 
 returns : tie.Need-returns
 unfolding run-answer

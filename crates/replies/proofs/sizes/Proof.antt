@@ -1,8 +1,8 @@
 use borrow.Author.Needs.{needs}
 use mathlib.Core.Path.{_∙_}
-use Rattle.panel.proofs.ToldLaws.{sizes-law}
-use Rattle.panel.proofs.sizes.Statement.{statement}
-use Rattle.panel.proofs.sizes.Tie as tie
+use Rattle.replies.proofs.SizeLaws.{sizes-law}
+use Rattle.replies.proofs.sizes.Statement.{statement}
+use Rattle.replies.proofs.sizes.Tie as tie
 
 returns : tie.Need-returns
 returns c = let b = c .before .before .before .before .before .before in

@@ -4,8 +4,8 @@ use Rattle.listing.specs.declared.Listed.{Listed}
 use Rattle.scope.specs.Answer.{number-of}
 use Rattle.listing.specs.Answers.{listed-answer, text-length}
 use Rattle.told.specs.Told.{place-of, unfit}
-use Rattle.panel.proofs.text_unfit.Statement.{statement}
-use Rattle.panel.proofs.text_unfit.Tie as tie
+use Rattle.replies.proofs.text_unfit.Statement.{statement}
+use Rattle.replies.proofs.text_unfit.Tie as tie
 
 returns : tie.Need-returns
 unfolding number-of place-of listed-answer text-length unfit

@@ -3,8 +3,8 @@ use mathlib.Core.Path.{sym, ap, _∙_}
 use Rattle.checks.specs.declared.Done.{Done}
 use Rattle.checks.specs.Answers.{done-answer}
 use Rattle.told.specs.Told.{told}
-use Rattle.panel.proofs.done_told.Statement.{statement}
-use Rattle.panel.proofs.done_told.Tie as tie
+use Rattle.replies.proofs.done_told.Statement.{statement}
+use Rattle.replies.proofs.done_told.Tie as tie
 
 returns : tie.Need-returns
 unfolding done-answer
