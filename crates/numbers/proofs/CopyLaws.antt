@@ -1,5 +1,6 @@
 -- A copy, byte by byte.
---     copy-none, copy-turn, copy-all    before the first byte, one byte more, behind the last
+--     copy-none, copy-turn, copy-end    before the first byte, one byte more, behind the last
+--     copy-all                          all of a slice
 -- Assumes nothing.
 use mathlib.Core.Path.{_≡_, refl, sym, ap, _∙_}
 use mathlib.Core.List.{List}
@@ -21,6 +22,8 @@ copy-turn from old to k h e q =
     ∙ fill-one old (take k from) k (getD from k 0) (length-take-le k from (omega arith)) (omega arith)
     ∙ ap (fill old) (sym (take-suc from k 0 h) ∙ ap (λ (m : ℕ). take m from) (sym (add-one k)))
 
-pub copy-all : (from old to : List ℕ) (k : ℕ) → k ≡ length from → length from ≡ length old → to ≡ fill old (take k from) → to ≡ from
-copy-all from old to k h e q =
-    q ∙ ap (λ (m : ℕ). fill old (take m from)) h ∙ ap (fill old) (take-length from) ∙ fill-all old from e
+pub copy-end : (from old to : List ℕ) (k n : ℕ) → k ≡ n → to ≡ fill old (take k from) → to ≡ fill old (take n from)
+copy-end from old to k n h q = q ∙ ap (λ (m : ℕ). fill old (take m from)) h
+
+pub copy-all : (from old to : List ℕ) → length from ≡ length old → to ≡ fill old (take (length from) from) → to ≡ from
+copy-all from old to e q = q ∙ ap (fill old) (take-length from) ∙ fill-all old from e

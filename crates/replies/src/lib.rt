@@ -89,5 +89,5 @@ pub fn put_room(room: &[u8; 2624], n: usize, text: &mut [u8])
     requires { ⌜ (n ≤ length (now room)) × (length (now text) ≡ 2624) ⌝ }
     ensures { λ _. ⌜ now (text .exit) ≡ fill (now (text .entry)) (take n (now (room .entry))) ⌝ }
 {
-    told::put_text(room, n, text);
+    numbers::copy_first(room, n, text);
 }

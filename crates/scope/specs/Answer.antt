@@ -1,6 +1,7 @@
 -- What a call answers, and what it leaves behind.
 --     Answer             good with its values, abort, refused
 --     number-of, values-of    01's number and values for each case
+--     place-of           what stands beside the number where an answer goes out as numbers
 --     After              the answer, what is returned beside it, and everything that was lent as it is afterwards
 -- Where code answers by an enum, a definition beside it gives the Answer that each of its cases stands for, and promises go through that.
 use mathlib.Core.List.{List, [], _∷_}
@@ -16,6 +17,12 @@ unfoldable pub number-of : Answer → ℕ
 number-of (good vs) = 0
 number-of (abort o m) = 100
 number-of (refused n p) = n
+
+-- a refusal's place, an abort's output, else 0
+unfoldable pub place-of : Answer → ℕ
+place-of (good vs) = 0
+place-of (abort o m) = o
+place-of (refused n p) = p
 
 unfoldable pub values-of : Answer → List ℕ
 values-of (good vs) = vs

@@ -1,7 +1,7 @@
 -- What the numbers that go out say, so that good, abort and refusal are never mistaken for each other. About every call.
 --     refusal-numbers    a refusal's number is one of 1 to 14
 --     numbers-tell       the answer, from number, place and sites
---     tells-by           a call's statement, from what its own function ensures
+--     answer-by, tells-by    a call's statement, from what its own function ensures: of the answer alone, and with the buffers
 --     given-one          two structs that meet one equation are one: those of open, check, gate, owner, output, sizes and traffic
 --     tells-one, listing-told-one    two answers that meet a statement are one, the buffers too: of plain values, run, view and re-taping; of the listing
 -- Assumes nothing.
@@ -13,13 +13,13 @@ use native.Mathlib.Omega.{arith}
 use lib.ListN.{length, getD, List·getD-eq-default}
 use lib.Dec.{leb}
 use borrow.Author.Tests.{leb-true, leb-false}
-use Rattle.scope.specs.Answer.{Answer as Said, good, abort, refused, After, number-of}
+use Rattle.scope.specs.Answer.{Answer as Said, good, abort, refused, After, number-of, place-of}
 use Rattle.scope.specs.Checks.{Given, Row, no-row, row, refusal-table, Holds}
 use Rattle.scope.specs.Calls.{Call, Listing, given-of, does}
 use Rattle.scope.proofs.Whole.{refused-exactly}
 use Rattle.told.specs.declared.Answer.{Answer}
 use Rattle.told.specs.declared.ListingAnswer.{ListingAnswer}
-use Rattle.told.specs.Told.{place-of, sites-of, told, Tells, told-listing, text-left}
+use Rattle.told.specs.Told.{sites-of, told, Tells, told-listing, text-left}
 
 rows : (g : Given) → length (refusal-table g) ≡ 15
 unfolding refusal-table
@@ -80,5 +80,8 @@ pub listing-told-one : (job text : List ℕ) (r s : ListingAnswer) (l m : List �
 listing-told-one job text r s l m h k = (given-one _ r s (h .0) (k .0), given-one _ l m (h .1) (k .1))
 
 -- the statement, from what the call's own function ensures
+pub answer-by : {A : Type 0} (f : Said → A) (after then : After) (r : A) → r ≡ f (after .answer) → after ≡ then → r ≡ f (then .answer)
+answer-by f after then r h e = h ∙ ap (λ (z : After). f (z .answer)) e
+
 pub tells-by : (c : Call) (after : After) (r : Answer) → r ≡ told (after .answer) → after ≡ does c → Tells r (after .lent) c
-tells-by c after r h e = (h ∙ ap (λ (z : After). told (z .answer)) e, ap (λ (z : After). z .lent) e)
+tells-by c after r h e = (answer-by told after (does c) r h e, ap (λ (z : After). z .lent) e)

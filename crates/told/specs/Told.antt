@@ -1,5 +1,5 @@
 -- An answer as it goes out to C: numbers in a struct. The first is `number-of` of scope: 0 good, 100 abort, else the refusal's.
---     place-of, sites-of, value-of       what stands beside the number
+--     sites-of, value-of                 what stands beside the number
 --     told                               the answer of plain values, run, view and re-taping
 --     Tells                              that answer, with all lent buffers as they are afterwards, is what the call does
 --     told-counts .. told-output         the answers that have values: 0 each where there are none
@@ -12,7 +12,7 @@ use Prim.Native.Nat.{ℕ}
 use lib.ListN.{length, getD}
 use lib.Dec.{eqb}
 use Rattle.sharing.specs.Store.{fill}
-use Rattle.scope.specs.Answer.{Answer as Said, good, abort, refused, After, number-of}
+use Rattle.scope.specs.Answer.{Answer as Said, good, abort, refused, After, number-of, place-of}
 use Rattle.scope.specs.Calls.{Call, does}
 use Rattle.told.specs.declared.Answer.{Answer}
 use Rattle.told.specs.declared.CountsAnswer.{CountsAnswer}
@@ -21,12 +21,6 @@ use Rattle.told.specs.declared.OwnerAnswer.{OwnerAnswer}
 use Rattle.told.specs.declared.OutputAnswer.{OutputAnswer}
 use Rattle.told.specs.declared.TrafficAnswer.{TrafficAnswer}
 use Rattle.told.specs.declared.ListingAnswer.{ListingAnswer}
-
--- a refusal's place, an abort's output, else 0
-unfoldable pub place-of : Said → ℕ
-place-of (good vs) = 0
-place-of (abort o m) = o
-place-of (refused n p) = p
 
 -- an abort's sites, else 0
 unfoldable pub sites-of : Said → ℕ

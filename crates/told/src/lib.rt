@@ -1,10 +1,8 @@
 // Answers as C gets them: structs of numbers. 0 is good, 100 an abort with its output and its sites, and every other number is a refusal's, with its
-// place. What is copied on the way out is here too.
+// place.
 ghost use mathlib.Core.Path.{_≡_};
 ghost use mathlib.Core.List.{[]};
 ghost use Prim.Native.Nat.{_≤_};
-ghost use lib.ListN.{length, take};
-ghost use Rattle.sharing.specs.Store.{fill};
 ghost use Rattle.scope.specs.Answer.{good, abort, refused};
 ghost use Rattle.header.specs.Answers.{header-answer};
 ghost use Rattle.circuit.specs.Answers.{gate-answer, owner-answer, output-answer};
@@ -262,17 +260,5 @@ pub fn no_sizes(number: usize, place: usize) -> SizesAnswer
         store: 0,
         view: [0; 3],
         room: 0,
-    }
-}
-
-// The first n bytes of a room, into the lent buffer.
-pub fn put_text(room: &[u8], n: usize, text: &mut [u8])
-    requires { ⌜ (n ≤ length (now room)) × (length (now room) ≡ length (now text)) ⌝ }
-    ensures { λ _. ⌜ now (text .exit) ≡ fill (now (text .entry)) (take n (now (room .entry))) ⌝ }
-{
-    let mut k: usize = 0;
-    while k < n {
-        text[k] = room[k];
-        k += 1;
     }
 }

@@ -16,7 +16,7 @@ use Rattle.sharing.specs.Sites.{Site, s1, s2, s3, next, is}
 use Rattle.sharing.specs.Circuit.{Gate, XOR, AND, OR, NOT, dealing}
 use Rattle.sharing.specs.Traffic.{input-adds, gate-adds, output-adds, sum, entry, traffic-table, no-table}
 use Rattle.scope.specs.File.{circuit, site-of, inputs-of, gates-of, outputs-of}
-use Rattle.scope.specs.Answer.{good, refused, number-of, After}
+use Rattle.scope.specs.Answer.{good, refused, number-of, After, place-of}
 use Rattle.scope.specs.Checks.{verdict}
 use Rattle.scope.specs.Refusal.{stands-in, those-of}
 use Rattle.scope.specs.Calls.{Check, Traffic, given-of, concerns, order, answers, when-good, when-refused, lent-before, lent-at-13, returned-refused, does}
@@ -32,7 +32,6 @@ use Rattle.header.specs.Answers.{header-answer}
 use Rattle.header.specs.Opened.{Opened}
 use Rattle.checks.proofs.FrontLaws.{circuit-refuses, circuit-passes}
 use Rattle.entries.specs.Mirror.{table-of, plus, Under, from-input, from-gate, from-output}
-use Rattle.traffic.specs.Answers.{place-of}
 use Rattle.traffic.specs.declared.Refusal.{Refusal}
 use Rattle.traffic.specs.Mirror.{input-steps, gate-steps, output-steps, sums-upto, refusal-by}
 

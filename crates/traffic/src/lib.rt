@@ -2,11 +2,10 @@
 ghost use mathlib.Core.Path.{_≡_};
 ghost use Prim.Native.Nat.{_+_, _*_, _<_, _≤_};
 ghost use Rattle.scope.specs.File.{circuit};
-ghost use Rattle.scope.specs.Answer.{number-of};
+ghost use Rattle.scope.specs.Answer.{number-of, place-of};
 ghost use Rattle.scope.specs.Calls.{Traffic, does};
 ghost use Rattle.sharing.specs.Traffic.{input-adds, gate-adds, output-adds, traffic-table};
 ghost use Rattle.header.specs.Opened.{Opened};
-ghost use Rattle.traffic.specs.Answers.{place-of};
 ghost use Rattle.entries.specs.Mirror.{table-of, plus, Under};
 ghost use Rattle.traffic.specs.Mirror.{input-steps, gate-steps, output-steps, sums-upto, refusal-by};
 use circuit::Owner;

@@ -14,11 +14,10 @@ use mathlib.Core.Path.{_≡_}
 use mathlib.Core.List.{List, [], _∷_}
 use Prim.Native.Nat.{ℕ}
 use lib.ListN.{length}
-use Rattle.scope.specs.Answer.{number-of}
+use Rattle.scope.specs.Answer.{number-of, place-of}
 use Rattle.scope.specs.Calls.{Run, Traffic, does}
 use Rattle.run.specs.declared.Ran.{Ran}
 use Rattle.run.specs.Answers.{run-after}
-use Rattle.traffic.specs.Answers.{place-of}
 use Rattle.demands.specs.Marked.{K-file, K-tapes, K-line}
 
 -- 01: "Buffers: run 0 outputs, 1 transcript, 2 store"

@@ -1,14 +1,13 @@
 use borrow.Author.Needs.{needs}
 use mathlib.Core.Path.{ap, _∙_}
 use Rattle.told.specs.Told.{nine}
-use Rattle.panel.proofs.ToldLaws.{traffic-place}
 use Rattle.panel.proofs.bakebutton_traffic.Statement.{statement}
 use Rattle.panel.proofs.bakebutton_traffic.Tie as tie
 
 returns : tie.Need-returns
 returns c = let e = c .before .traffic-of .ensures in
     let n = e .1 .0 in
-    let p = e .1 .1 ∙ traffic-place _ in
+    let p = e .1 .1 in
     let b = c .rows-told .ensures ∙ ap nine (e .0) in
     λ i. record { number = n i; place = p i; bits = b i }
 

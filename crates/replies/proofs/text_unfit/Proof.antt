@@ -1,9 +1,9 @@
 use borrow.Author.Needs.{needs}
 use mathlib.Core.Path.{sym, ap}
 use Rattle.listing.specs.declared.Listed.{Listed}
-use Rattle.scope.specs.Answer.{number-of}
+use Rattle.scope.specs.Answer.{number-of, place-of}
 use Rattle.listing.specs.Answers.{listed-answer, text-length}
-use Rattle.told.specs.Told.{place-of, unfit}
+use Rattle.told.specs.Told.{unfit}
 use Rattle.replies.proofs.text_unfit.Statement.{statement}
 use Rattle.replies.proofs.text_unfit.Tie as tie
 

@@ -1,6 +1,6 @@
 use borrow.Author.Needs.{needs}
-use Rattle.scope.specs.Answer.{number-of}
-use Rattle.told.specs.Told.{place-of, sites-of}
+use Rattle.scope.specs.Answer.{number-of, place-of}
+use Rattle.told.specs.Told.{sites-of}
 use Rattle.told.proofs.abort_told.Statement.{statement}
 use Rattle.told.proofs.abort_told.Tie as tie
 

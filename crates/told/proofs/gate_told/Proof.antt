@@ -1,9 +1,9 @@
 use borrow.Author.Needs.{needs}
 use mathlib.Core.Path.{sym, ap}
 use Rattle.circuit.specs.declared.Gate.{Gate}
-use Rattle.scope.specs.Answer.{number-of}
+use Rattle.scope.specs.Answer.{number-of, place-of}
 use Rattle.circuit.specs.Answers.{gate-answer}
-use Rattle.told.specs.Told.{place-of, sites-of, value-of, told-gate}
+use Rattle.told.specs.Told.{sites-of, value-of, told-gate}
 use Rattle.told.proofs.gate_told.Statement.{statement}
 use Rattle.told.proofs.gate_told.Tie as tie
 

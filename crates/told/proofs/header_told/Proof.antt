@@ -1,9 +1,9 @@
 use borrow.Author.Needs.{needs}
 use mathlib.Core.Path.{sym, ap}
 use Rattle.header.specs.declared.Header.{Header}
-use Rattle.scope.specs.Answer.{number-of}
+use Rattle.scope.specs.Answer.{number-of, place-of}
 use Rattle.header.specs.Answers.{header-answer}
-use Rattle.told.specs.Told.{place-of, sites-of, value-of, told-counts}
+use Rattle.told.specs.Told.{sites-of, value-of, told-counts}
 use Rattle.told.proofs.header_told.Statement.{statement}
 use Rattle.told.proofs.header_told.Tie as tie
 
