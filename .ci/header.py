@@ -2,7 +2,7 @@
 
 - Every exported function of crates/panel is declared, with the parameters and the result that its own text has, and no other is.
 - Every struct that goes out (crates/told, #[repr(C)]) has the same members, of the same types, in the same order.
-- Good, abort, the refusals' numbers, the order of checks and what each call checks are those of crates/scope/specs.
+- Good, abort, the refusals' numbers, the order of checks and what each call checks are those of crates/scope/specs and crates/demands/specs.
 - Limits, kinds, the job's and the text's lengths are those of the code that tests them.
 - Each length's macro gives what told::sizes_from and the header's own check compute, and each _MAX what the largest circuit needs.
 """
@@ -67,12 +67,21 @@ def list_of(text):
     return [int(number) for number in re.findall(r"\d+", text)]
 
 
+def numbers_in(text, named):
+    """The numbers of a list of checks, in its order: each is `refusal N ..`, or stands for its own by its name."""
+    found = re.findall(r"\brefusal (\d+) |(?<![\w-])([\w-]+-checks?)(?![\w-])", text)
+    return [n for number, name in found for n in ([int(number)] if number else named[name])]
+
+
 def orders():
     """Each call's checks in their order, by the call's name in Calls.antt."""
+    named = {}
+    for name, body in re.findall(r"^(\S+-checks?) [^=\n]*= (.*)$", source("crates/scope/specs/Checks.antt"), re.M):
+        named[name] = numbers_in(body, named)
     text = source("crates/scope/specs/Calls.antt")
-    fixed = list_of(re.search(r"^fixed-order = (.*)$", text, re.M).group(1))
-    concerns = {name: list_of(numbers) for name, numbers in re.findall(r"^concerns \((\w+)[^)]*\) = (.*)$", text, re.M)}
-    return fixed, {name: [n for n in fixed if n in numbers] for name, numbers in concerns.items()}
+    fixed = list_of(re.search(r"^fixed-order = (.*)$", source("crates/demands/specs/Public.antt"), re.M).group(1))
+    calls = re.findall(r"^unfoldable pub (\w+?)(?:Of)? : [^\n]*→ Call$.*?checks =(.*?)buffers =", text, re.M | re.S)
+    return fixed, {name: numbers_in(checks, named) for name, checks in calls}
 
 
 CALLS = {"open": "Open", "gate": "GateAt", "owner": "OwnerAt", "output": "OutputAt", "check": "Check", "sizes": "Check",
@@ -150,16 +159,15 @@ def problems():
         if defined(name) != number:
             yield f"BAKEBUTTON_{name} is not {number}"
 
-    rows = re.search(r"^refusal-table g =\n(.*?)\n\n", source("crates/scope/specs/Checks.antt"), re.S | re.M).group(1)
-    count = len(re.findall(r"^\s*∷ (?!\[\])", rows, re.M))
+    count = len(orders()[0])
     numbers = [int(n) for n in re.findall(r"^#define BAKEBUTTON_REFUSED_\w+ (\d+)$", HEADER, re.M)]
     if numbers != list(range(1, count + 1)):
-        yield f"the refusals' numbers are {numbers}, and the table has {count} rows"
+        yield f"the refusals' numbers are {numbers}, and there are {count} in the one order"
     table = {int(n): flat(text) for n, text in re.findall(r"^ \*\s+(\d+)   (\w.*)$", HEADER, re.M)}
     if list(table) != numbers:
         yield f"the comment's table of refusals has {list(table)}"
     for row, number in (("row-short", 1), ("row-large", 2), ("row-field", 3), ("row-site", 11), ("row-job", 14)):
-        body = re.search(rf"^{row} g =(.*?)\n\n", source("crates/scope/specs/Checks.antt"), re.S | re.M).group(1)
+        body = re.search(rf"^{row} \w+ =(.*?)\n\n", source("crates/scope/specs/Checks.antt"), re.S | re.M).group(1)
         places = re.findall(r"[(∷] ?\((\d+), not", body)
         said = (", ".join(places[:-1]) + " or " if places[1:] else "") + places[-1]
         if not re.search(rf"(?:^|\s){said}$", table[number]):

@@ -4,6 +4,8 @@
 - No definition or proof declares an axiom.
 - A public call is a function whose comment begins "PUBLIC.". Each such mark has its function, none has a `requires`, each cites `does (`
   in its promise (a question to a reader `read-as (`), and docs/STATEMENTS.md has exactly these functions in its table.
+- The closed list of public calls (crates/demands/specs/Public.antt) is that of the sources: the call that a public function promises stands
+  in it, every call in it is promised by one, and docs/STATEMENTS.md has exactly these calls in its table.
 - No function over a Reader that a caller outside can reach has a `requires`: anybody can make a Reader.
 - Every must-fail edit says in its first line what wrong program it is, and each text that it changes stands once where it says.
 - Sources are in the toolchain's layout (`rt fmt --check`).
@@ -28,8 +30,7 @@ def listed():
 
 MARK = re.compile(r"//+\s*PUBLIC\b")
 FUNCTION = re.compile(r"pub (?:extern \"C\" )?fn (\w+)")
-ROW = re.compile(r"^\| `\w+`[^|]* \| \[`(\w+)`\]\(\.\./(crates/[^)]+\.rt)\) \|", re.M)
-DOOR = re.compile(r"\[`(bakebutton_\w+)`\]\(\.\./(crates/panel/src/lib\.rt)\)")  # the same calls for C: a row has several
+PLACE = re.compile(r"\[`(\w+)`\]\(\.\./(crates/[^)]+/src/[^)]+\.rt)\)")  # in a row of the map's tables of public calls; a row may have several
 
 
 def sources():
@@ -58,6 +59,30 @@ def public_calls():
             yield path, found and found.group(1), head(lines, after)
 
 
+CALL = re.compile(r"^(?:unfoldable|abbrev) pub (\S+) :.*→ Call$", re.M)
+LISTED = re.compile(r"^  \S+ :.*→ \w+ \((\w+)", re.M)
+CALLS_ROW = re.compile(r"^\| \[`(\w+)`\]\(\.\./crates/[^)]+/specs/[^)]+\.antt\)", re.M)
+
+
+def call_problems():
+    """Of the closed list of public calls, against what public functions promise and against the map's table of calls."""
+    calls = {name for path in (ROOT / "crates").glob("*/specs/*.antt") for name in CALL.findall(path.read_text())}
+    listed_calls = set(LISTED.findall((ROOT / "crates" / "demands" / "specs" / "Public.antt").read_text()))
+    promised = set()
+    for path, name, contract in public_calls():
+        own = calls & set(re.findall(r"\w+", re.sub(r"^.*?\bensures\b", "", contract, flags=re.S)))
+        if name is not None and not own:
+            yield f"{path}: public call {name} promises no call that is defined"
+        for call in sorted(own - listed_calls):
+            yield f"{path}: {name} promises {call}, which is not in the closed list of crates/demands/specs/Public.antt"
+        promised |= own
+    for call in sorted(listed_calls - promised):
+        yield f"crates/demands/specs/Public.antt: no public function promises {call}"
+    rows = set(CALLS_ROW.findall(public_section()))
+    for call in sorted(listed_calls ^ rows):
+        yield f"docs/STATEMENTS.md: {call} is " + ("not in its table of calls" if call in listed_calls else "in its table of calls, and not in the closed list")
+
+
 def over_reader():
     """Path, name and contract of each function with a Reader among its parameters that a caller outside can reach."""
     for path, lines in sources():
@@ -65,6 +90,11 @@ def over_reader():
             found = FUNCTION.match(line)
             if found and re.search(r"\(.*\bReader\b.*\)", head(lines, number).split("->")[0], re.S):
                 yield path, found.group(1), head(lines, number)
+
+
+def public_section():
+    """The statement map's section on public calls."""
+    return re.search(r"^## The public calls$(.*?)^## ", (ROOT / "docs" / "STATEMENTS.md").read_text(), re.M | re.S).group(1)
 
 
 def public_problems():
@@ -78,10 +108,10 @@ def public_problems():
             yield f"{path}: public call {name} has a requires"
         if not re.search(r"^\s*ensures\b.*\b(?:does \(|read-as \(|Tells )", contract, re.M | re.S):
             yield f"{path}: public call {name} does not promise what its call does"
-    text = (ROOT / "docs" / "STATEMENTS.md").read_text()
-    named = set(ROW.findall(text)) | set(DOOR.findall(text)) - {("bakebutton_text_bytes", "crates/panel/src/lib.rt")}
+    rows = re.findall(r"^\|.*$", public_section(), re.M)
+    named = set(PLACE.findall("\n".join(rows))) - {("bakebutton_text_bytes", "crates/panel/src/lib.rt")}
     for name, path in sorted(seen ^ named):
-        yield f"{path}: {name} is " + ("not in docs/STATEMENTS.md's table of functions" if (name, path) in seen else "in docs/STATEMENTS.md's table of functions, and no public call")
+        yield f"{path}: {name} is " + ("not in docs/STATEMENTS.md's tables of public calls" if (name, path) in seen else "in docs/STATEMENTS.md's tables of public calls, and none")
     if not seen:
         yield "no public call is seen"
     for path, name, contract in over_reader():
@@ -111,6 +141,7 @@ def edit_problems(path):
 
 def problems():
     yield from public_problems()
+    yield from call_problems()
     folders = {path.name for path in (ROOT / "crates").iterdir() if path.is_dir()}
     for name in sorted(folders ^ listed()):
         yield f"crates/{name} and crates.txt differ"

@@ -2,7 +2,7 @@
 --     four-got, deals-got        the four bits of an AND or OR that reach the site, by sender
 --     joined                     the gates begin where the inputs end
 --     gate-step                  one gate: from the document's state to the next
-use mathlib.Core.Path.{_≡_, refl, sym, ap, ap₂, _∙_}
+use mathlib.Core.Path.{_≡_, refl, sym, ap, _∙_}
 use mathlib.Core.List.{List, [], _∷_, _++_, append-nil}
 use Prim.Native.Nat.{ℕ, suc, _+_, _*_, _≤_, _<_}
 use native.Mathlib.Omega.{arith}
@@ -12,28 +12,30 @@ use Rattle.sharing.specs.Sites.{Site, s1, s2, s3, Trio, is}
 use Rattle.sharing.specs.Circuit.{Gate, XOR, AND, OR, NOT, Circuit, Draws, none, no-errors, dealing, ands}
 use Rattle.sharing.specs.Order.{if-deals}
 use Rattle.sharing.specs.Published.{Parts, no-parts, Deal, dealt, product, left, right, product-of, flip-parts, parts}
-use Rattle.sharing.specs.Steps.{Wire, no-wire, hold, flip, deals, gate-wire}
-use Rattle.sharing.specs.Run.{after}
+use Rattle.sharing.specs.Steps.{Wire, no-wire, hold, deals}
 use Rattle.sharing.specs.Retape.{mine}
 use Rattle.sharing.specs.Tapes.{read}
 use Rattle.sharing.specs.Store.{fill}
 use Rattle.sharing.proofs.BitLaws.{bit-group}
 use Rattle.sharing.proofs.Clean.{held, look-hold}
-use Rattle.sharing.proofs.RunLaws.{after-length}
 use Rattle.sharing.proofs.Seen.{got, to-site3, gates-got}
 use Rattle.scope.proofs.RunCall.{bit-draws}
 use Rattle.messages.specs.Mirror.{twelve}
-use Rattle.steps.specs.Mirror.{on-lines, put-four, sends, takes}
+use Rattle.steps.specs.Mirror.{on-lines, put-four, takes}
 use Rattle.messages.specs.declared.Four.{Four}
 use Rattle.messages.specs.declared.Twelve.{Twelve}
 use Rattle.engine.specs.Mirror.{St, st, Lower}
-use Rattle.link.specs.Link.{stored, Cut, sent3}
+use Rattle.link.specs.Link.{sent3, held-of, Reads}
 use Rattle.link.specs.Loops.{place, in-places}
-use Rattle.link.proofs.BitLinks.{bits-zero, not-bits}
+use Rattle.link.specs.Places.{Operands, sent-at, gate-at, as-is, stored}
 use Rattle.link.proofs.FillLaws.{fill-four}
-use Rattle.link.proofs.GateLaws.{add-link, and-sends, or-sends, and-store, or-store}
+use Rattle.link.proofs.GateReads.{bits-zero, and-sent, or-sent}
+use Rattle.link.proofs.WholeLaw.{lower-is}
+use Rattle.link.proofs.StoredLaws.{moved-none, live-as-is, stored-long, stored-reads, gate-stored}
+use Rattle.link.proofs.WireLaws.{operands, wire-at}
 use Rattle.engine.proofs.EngineLaws.{placed-eq}
-use Rattle.link.proofs.GatesLaw.{st-eq, places, firsts, seconds}
+use Rattle.link.proofs.EngineRuns.{st-eq}
+use Rattle.link.proofs.DrawLaws.{spots, drawn}
 use Rattle.seen.specs.Mirror.{four-of-site, with-at, past-and, and-seen, gate-seen, ins-seen, state-seen}
 use Rattle.seen.proofs.SeenLaws.{on-none}
 
@@ -69,24 +71,24 @@ put-none : (done : List ℕ) → done ≡ done ++ []
 put-none done = sym (append-nil done)
 
 -- ---- the states
-module _ (s : Site) (C : Circuit) (x : ℕ → ℕ) (tapes : List ℕ) (o : Trio (List ℕ)) (old : List ℕ) where
+module _ (s : Site) (C : Circuit) (x : ℕ → ℕ) (tapes : List ℕ) (n : ℕ) (l old : List ℕ) where
   abbrev T : Draws
   T = read C tapes
 
   abbrev ins : ℕ → St
-  ins i = ins-seen s C x T o old i
+  ins i = ins-seen s C x T n l old i
 
   abbrev state : ℕ → St
-  state g = state-seen s C x T o old g
+  state g = state-seen s C x T n l old g
 
   -- the gates begin where the inputs end
   pub joined : ins (C .ins) ≡ state 0
-  unfolding ins-seen state-seen after gates-got ands place in-places
-  joined = st-eq refl refl (placed-eq (omega arith) (omega arith) (omega arith) refl)
+  unfolding ins-seen state-seen gates-got ands place in-places
+  joined = st-eq (ap (stored C x T no-errors n as-is l) (let e : C .ins ≡ C .ins + 0 = omega arith in e)) refl (placed-eq (omega arith) (omega arith) (omega arith) refl)
 
   -- ---- gates
-  abbrev wires : ℕ → List Wire
-  wires g = after bits C x T no-errors g
+  abbrev S : ℕ → List ℕ
+  S g = stored C x T no-errors n as-is l (C .ins + g)
 
   abbrev gots : ℕ → List ℕ
   gots g = gates-got bits s C x T g
@@ -100,69 +102,72 @@ module _ (s : Site) (C : Circuit) (x : ℕ → ℕ) (tapes : List ℕ) (o : Trio
 
   -- the state after g gates and this one
   unfoldable next-state : ℕ → Gate → St
-  next-state g k =
-      st (stored o (wires g ++ (gate-wire bits none (T .g1 g) (T .g2 g) k (wires g) ∷ []))) (fill old (gots g ++ brings g k))
-      (with-at (place C (ands (C .gate) g + dealing k)) (length (gots g ++ brings g k)))
+  next-state g k = st (S (suc g)) (fill old (gots g ++ brings g k)) (with-at (place C (ands (C .gate) g + dealing k)) (length (gots g ++ brings g k)))
 
   state-suc : (g : ℕ) → next-state g (C .gate g) ≡ state (suc g)
-  unfolding next-state state-seen after gates-got ands
+  unfolding next-state state-seen gates-got ands
   state-suc g = refl
 
-  module _ (g : ℕ) (hg : g < C .gates) where
+  module _ (g : ℕ) (hg : g < C .gates) (hl : length l ≡ 6 * n) (h : C .ins + g < n) (low : Lower (C .gate g) (C .ins + g)) where
     abbrev m : ℕ
     m = ands (C .gate) g
 
-    abbrev pl : Trio ℕ
-    pl = places C x tapes [] o [] g hg
+    abbrev w : ℕ
+    w = C .ins + g
 
-    -- a wire is the published parts that are held
-    wire-at : (a : ℕ) → getD (wires g) a no-wire ≡ hold (getD (ps g) a no-parts)
-    wire-at a = ap (λ (l : List Wire). getD l a no-wire) (held bit-group C x T (bit-draws T) g) ∙ look-hold (ps g) a
+    abbrev pl : Trio ℕ
+    pl = spots C tapes g
+
+    -- a place holds the published parts of its wire
+    reads : (a : ℕ) → a < w → Reads n (S g) a (hold (getD (ps g) a no-parts))
+    reads a q =
+        stored-reads C x T no-errors n as-is l hl w a (live-as-is n w a (omega arith) q)
+        ∙ ap held-of (sym (wire-at bits C x T no-errors g a (omega arith) q) ∙ ap (λ (z : List Wire). getD z a no-wire) (held bit-group C x T (bit-draws T) g) ∙ look-hold (ps g) a)
+
+    -- the store after a gate of any kind
+    store-law : (k : Gate) → C .gate g ≡ k → gate-at bits tapes none n pl w k (S g) ≡ S (suc g)
+    store-law k q =
+        let lows : Operands (λ a. a < w) (C .gate g) = lower-is (C .gate g) w low in
+        ap (λ (z : Gate). gate-at bits tapes none n pl w z (S g)) (sym q ∙ sym (moved-none (C .gate g)))
+        ∙ gate-stored C x T no-errors n as-is l hl tapes pl g hg lows (operands (λ a. live-as-is n w a (omega arith)) (C .gate g) lows) (drawn C tapes g hg)
 
     -- a gate that deals
-    abbrev sent : ℕ → ℕ → ℕ → ℕ → Twelve
-    sent n a b v = sends bits tapes n a b v (pl .at1) (pl .at2) (pl .at3) (stored o (wires g))
+    abbrev sent : ℕ → ℕ → ℕ → Twelve
+    sent v a b = sent-at bits tapes n pl v a b (S g)
 
-    dealt-law : (n w a b v : ℕ) (k : Gate) (P Q : Parts) → dealing k ≡ 1 → sent n a b v ≡ sent3 (deals bits (T .g1 g) (T .g2 g) (hold P) (hold Q))
-        → takes bits n w v (sent n a b v) (on-lines bits none (sent n a b v)) (stored o (wires g)) ≡ stored o (wires g ++ (gate-wire bits none (T .g1 g) (T .g2 g) k (wires g) ∷ []))
+    dealt-law : (v a b : ℕ) (k : Gate) (P Q : Parts) → dealing k ≡ 1 → sent v a b ≡ sent3 (deals bits (T .g1 g) (T .g2 g) (hold P) (hold Q))
+        → takes bits n w v (sent v a b) (on-lines bits none (sent v a b)) (S g) ≡ S (suc g)
         → to-site3 bits s (λ t. product bits t P Q) (T .g1 g) (T .g2 g) ≡ brings g k → length (gots g) + 4 * dealing k ≤ length old
         → and-seen s tapes n a b w v (state g) ≡ next-state g k
     unfolding and-seen state-seen next-state place past-and
-    dealt-law n w a b v k P Q d e t f r =
-        let G = put-more old (gots g) (length (gots g)) (four-of-site s (sent n a b v)) (brings g k)
+    dealt-law v a b k P Q d e t f r =
+        let G = put-more old (gots g) (length (gots g)) (four-of-site s (sent v a b)) (brings g k)
         (ap (λ (z : Twelve). four-list (four-of-site s z)) e ∙ deals-got s (T .g1 g) (T .g2 g) P Q ∙ f) refl (omega arith) in
-        st-eq (ap (λ (z : Twelve). takes bits n w v (sent n a b v) z (stored o (wires g))) (sym (all-none (sent n a b v))) ∙ t) (G .0)
+        st-eq (ap (λ (z : Twelve). takes bits n w v (sent v a b) z (S g)) (sym (all-none (sent v a b))) ∙ t) (G .0)
         (placed-eq (omega arith) (omega arith) (omega arith) (G .1))
 
     -- a gate that deals nothing
-    plain-law : (l l′ : List ℕ) (k : Gate) → dealing k ≡ 0 → brings g k ≡ [] → l ≡ l′
-        → st l (fill old (gots g)) (with-at (place C m) (length (gots g))) ≡ st l′ (fill old (gots g ++ brings g k)) (with-at (place C (m + dealing k)) (length (gots g ++ brings g k)))
-    plain-law l l′ k d e q =
-        let E : gots g ≡ gots g ++ brings g k = put-none (gots g) ∙ ap (λ (z : List ℕ). gots g ++ z) (sym e) in
+    plain-law : (z : List ℕ) (k : Gate) → dealing k ≡ 0 → brings g k ≡ [] → z ≡ S (suc g)
+        → st z (fill old (gots g)) (with-at (place C m) (length (gots g))) ≡ next-state g k
+    unfolding next-state
+    plain-law z k d e q =
+        let E : gots g ≡ gots g ++ brings g k = put-none (gots g) ∙ ap (λ (y : List ℕ). gots g ++ y) (sym e) in
         let M : m ≡ m + dealing k = omega arith in
         λ i. st (q i) (fill old (E i)) (with-at (place C (M i)) (length (E i)))
 
-    kind-law : (n w : ℕ) → Cut n o → length (wires g) ≡ w → w < n → (k : Gate) → C .gate g ≡ k → Lower k w → length (gots g) + 4 * dealing k ≤ length old
-        → gate-seen s tapes n w k (state g) ≡ next-state g k
-    unfolding gate-seen state-seen next-state gate-wire if-deals dealing left right
-    kind-law n w c lw h (XOR a b) q l r =
-        plain-law _ _ (XOR a b) refl refl (add-link bits n o c (wires g) w lw h a b (l .0) (l .1))
-    kind-law n w c lw h (AND a b) q l r =
-        let F = firsts C x tapes [] o [] g hg (ap dealing q) in let S = seconds C x tapes [] o [] g hg (ap dealing q) in
-        dealt-law n w a b 0 (AND a b) (getD (ps g) a no-parts) (getD (ps g) b no-parts) refl
-        (and-sends bits bits-zero n o c (wires g) w lw h tapes a b (l .0) (l .1) pl (T .g1 g) (T .g2 g) F S none
-        ∙ ap₂ (λ (y z : Wire). sent3 (deals bits (T .g1 g) (T .g2 g) y z)) (wire-at a) (wire-at b))
-        (and-store bits bits-zero n o c (wires g) w lw h tapes a b (l .0) (l .1) pl (T .g1 g) (T .g2 g) F S none) refl r
-    kind-law n w c lw h (OR a b) q l r =
-        let F = firsts C x tapes [] o [] g hg (ap dealing q) in let S = seconds C x tapes [] o [] g hg (ap dealing q) in
-        dealt-law n w a b 1 (OR a b) (flip-parts bits (getD (ps g) a no-parts)) (flip-parts bits (getD (ps g) b no-parts)) refl
-        (or-sends bits bits-zero n o c (wires g) w lw h tapes a b (l .0) (l .1) pl (T .g1 g) (T .g2 g) F S none
-        ∙ ap₂ (λ (y z : Wire). sent3 (deals bits (T .g1 g) (T .g2 g) (flip bits y) (flip bits z))) (wire-at a) (wire-at b))
-        (or-store bits bits-zero n o c (wires g) w lw h tapes a b (l .0) (l .1) pl (T .g1 g) (T .g2 g) F S none) refl r
-    kind-law n w c lw h (NOT a) q l r =
-        plain-law _ _ (NOT a) refl refl (not-bits n o c (wires g) w lw h a (l .0))
+    kind-law : (k : Gate) → C .gate g ≡ k → Lower k w → length (gots g) + 4 * dealing k ≤ length old → gate-seen s tapes n w k (state g) ≡ next-state g k
+    unfolding gate-seen state-seen gate-at if-deals dealing left right
+    kind-law (XOR a b) q u r = plain-law _ (XOR a b) refl refl (store-law (XOR a b) q)
+    kind-law (AND a b) q u r =
+        dealt-law 0 a b (AND a b) (getD (ps g) a no-parts) (getD (ps g) b no-parts) refl
+        (and-sent bits tapes none n pl (T .g1 g) (T .g2 g) (S g) (stored-long C x T no-errors n as-is l hl w) bits-zero a b _ _ (reads a (u .0)) (reads b (u .1)) (drawn C tapes g hg (ap dealing q)))
+        (store-law (AND a b) q) refl r
+    kind-law (OR a b) q u r =
+        dealt-law 1 a b (OR a b) (flip-parts bits (getD (ps g) a no-parts)) (flip-parts bits (getD (ps g) b no-parts)) refl
+        (or-sent bits tapes none n pl (T .g1 g) (T .g2 g) (S g) (stored-long C x T no-errors n as-is l hl w) bits-zero a b _ _ (reads a (u .0)) (reads b (u .1)) (drawn C tapes g hg (ap dealing q)))
+        (store-law (OR a b) q) refl r
+    kind-law (NOT a) q u r = plain-law _ (NOT a) refl refl (store-law (NOT a) q)
 
-  -- one gate
-  pub gate-step : (n : ℕ) → Cut n o → (g : ℕ) → g < C .gates → Lower (C .gate g) (C .ins + g) → C .ins + g < n → length (gots g) + 4 * dealing (C .gate g) ≤ length old
-      → gate-seen s tapes n (C .ins + g) (C .gate g) (state g) ≡ state (suc g)
-  gate-step n c g hg l h r = kind-law g hg n (C .ins + g) c (after-length bits C x T no-errors g) h (C .gate g) refl l r ∙ state-suc g
+    -- one gate
+    pub gate-step : length (gots g) + 4 * dealing (C .gate g) ≤ length old → gate-seen s tapes n (C .ins + g) (C .gate g) (state g) ≡ state (suc g)
+    gate-step r = kind-law (C .gate g) refl low r ∙ state-suc g

@@ -20,9 +20,7 @@ use Rattle.scope.proofs.Limits.{ands-most}
 use Rattle.header.specs.declared.Counts.{Counts}
 use Rattle.engine.specs.Mirror.{St, Lower}
 use Rattle.engine.proofs.EngineLaws.{lower-of, ands-room}
-use Rattle.link.specs.Link.{cut3}
 use Rattle.link.specs.Loops.{base, place}
-use Rattle.link.proofs.PartLaws.{cut-ok}
 use Rattle.seen.specs.Mirror.{gate-seen, gates-seen, ins-seen, state-seen, AndRoom, Seeing, Begun}
 use Rattle.circuit.specs.Loop.{up-to}
 use Rattle.brings.proofs.GateLaws.{gate-step, joined}
@@ -36,7 +34,7 @@ module _ (f tapes : List ℕ) (s : Site) (got store : ℕ) (c : Counts) (d : See
   n = c .inputs + c .gates
 
   abbrev state : ℕ → St
-  state k = state-seen s C (b .x) (read C tapes) (b .o) (b .old) k
+  state k = state-seen s C (b .x) (read C tapes) n (b .l) (b .old) k
 
   abbrev many : ℕ → ℕ
   many g = length (gates-got bits s C (b .x) (read C tapes) g)
@@ -59,7 +57,7 @@ module _ (f tapes : List ℕ) (s : Site) (got store : ℕ) (c : Counts) (d : See
       let i = d .checked .opened .ins-are in let k = d .checked .opened .gates-are in let l = b .long in let t = there g h in
       ap (gate-seen s tapes n (c .inputs + g) (C .gate g)) (gates-reach g (omega arith))
       ∙ ap (λ (m : ℕ). gate-seen s tapes n (m + g) (C .gate g) (state g)) i
-      ∙ gate-step s C (b .x) tapes (b .o) (b .old) n (b .cut) g (omega arith) (low g h) (omega arith) (omega arith)
+      ∙ gate-step s C (b .x) tapes n (b .l) (b .old) g (omega arith) (b .fits) (omega arith) (low g h) (omega arith)
 
   pub gates-room : (k r : ℕ) (y : St) → k < c .gates → r ≡ got → y ≡ gates-seen s f tapes (c .inputs) n x₀ k → AndRoom (dealing (C .gate k)) (length tapes) r (y .pos)
   unfolding state-seen place base tape-length
@@ -78,15 +76,15 @@ module _ (f tapes : List ℕ) (s : Site) (got store : ℕ) (c : Counts) (d : See
 
 -- where the inputs ended the gates may begin
 unfoldable pub begun : (f xs tapes : List ℕ) (s : Site) (store got : List ℕ) (c : Counts) (r : ℕ) (y : St) → Seeing f c s (length tapes) (length got) (length store) → r ≡ length got
-    → y ≡ ins-seen s (circuit f) (at-wire xs) (read (circuit f) tapes) (cut3 (c .inputs + c .gates) store) got (c .inputs)
+    → y ≡ ins-seen s (circuit f) (at-wire xs) (read (circuit f) tapes) (c .inputs + c .gates) store got (c .inputs)
     → Begun f s tapes (c .inputs + c .gates) r y
 begun f xs tapes s store got c r y d e q =
     let n : ℕ = c .inputs + c .gates in
     record {
       x = at-wire xs;
-      o = cut3 n store;
+      l = store;
       old = got;
-      cut = cut-ok n store (d .ls);
+      fits = d .ls;
       long = sym e;
-      is = q ∙ ap (ins-seen s (circuit f) (at-wire xs) (read (circuit f) tapes) (cut3 n store) got) (d .checked .opened .ins-are) ∙ joined s (circuit f) (at-wire xs) tapes (cut3 n store) got;
+      is = q ∙ ap (ins-seen s (circuit f) (at-wire xs) (read (circuit f) tapes) n store got) (d .checked .opened .ins-are) ∙ joined s (circuit f) (at-wire xs) tapes n store got;
     }

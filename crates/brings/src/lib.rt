@@ -68,7 +68,7 @@ fn and_gate(
     pos: Pos,
 ) -> Pos
     requires { ⌜ (length (now store) ≡ 6 * n) × (n ≤ 4096) ⌝ }
-    requires { ⌜ (a < w) × (b < w) × (w < n) ⌝ }
+    requires { ⌜ (a < n) × (b < n) × (w < n) ⌝ }
     requires { ⌜ AndRoom 1 (length (now tapes)) (length (now got)) pos ⌝ }
     ensures { λ r. ⌜ st (now (store .exit)) (now (got .exit)) r ≡ and-seen (site-of site) (now (tapes .entry)) n a b w o (st (now (store .entry)) (now (got .entry)) pos) ⌝ }
 {
@@ -95,7 +95,7 @@ fn kind_step(
     pos: Pos,
 ) -> Pos
     requires { ⌜ (length (now store) ≡ 6 * n) × (n ≤ 4096) ⌝ }
-    requires { ⌜ Lower (gate-of kind a b) w × (w < n) ⌝ }
+    requires { ⌜ Lower (gate-of kind a b) n × (w < n) ⌝ }
     requires { ⌜ AndRoom (dealing (gate-of kind a b)) (length (now tapes)) (length (now got)) pos ⌝ }
     ensures { λ r. ⌜ st (now (store .exit)) (now (got .exit)) r ≡ gate-seen (site-of site) (now (tapes .entry)) n w (gate-of kind a b) (st (now (store .entry)) (now (got .entry)) pos) ⌝ }
 {

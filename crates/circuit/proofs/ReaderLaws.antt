@@ -5,16 +5,15 @@
 -- Assumes nothing.
 use mathlib.Core.Path.{_≡_, refl, sym, ap, ap₂, _∙_}
 use mathlib.Core.Bool.{Bool, true, false, not, cond}
-use mathlib.Core.List.{List, [], _∷_}
+use mathlib.Core.List.{List, [], _∷_, _++_}
 use Prim.Native.Nat.{ℕ, suc, _<_}
 use native.Mathlib.Omega.{arith}
 use lib.Dec.{leb, ltb}
 use borrow.Author.Tests.{leb-true, leb-false, lt-ltb, le-ltb, lt-leb}
 use Rattle.scope.specs.File.{inputs-of, gates-of, outputs-of, kind-at, first-at, second-at, owner-at, output-at}
 use Rattle.scope.specs.Answer.{Answer, good, refused}
-use Rattle.scope.specs.Checks.{Given, row, row-asked, row-gate, row-owner, row-output, refusal-table, accepted, refuses, verdict}
-use Rattle.scope.specs.Refusal.{stands-in, those-of}
-use Rattle.scope.specs.Calls.{Call, GateAt, OwnerAt, OutputAt, given-of, concerns, order, answers, when-good, lent-before, lent-at-13, returned-refused, does}
+use Rattle.scope.specs.Checks.{refusal, header-checks, row-asked, accepted, refuses, verdict}
+use Rattle.scope.specs.Calls.{Call, GateAt, OwnerAt, OutputAt, unrefused, answers, does}
 use Rattle.scope.proofs.CallLaws.{does-good}
 use Rattle.scope.proofs.Places.{Rising, refuse-at, place-verdict}
 use Rattle.header.specs.declared.Counts.{Counts}
@@ -33,37 +32,34 @@ use Rattle.header.proofs.HeaderLaws.{header-refused, header-good}
 use Rattle.header.proofs.OpenLaws.{only-answer}
 
 -- a question by number: the count refuses it, or it is answered
-asked-verdict : (g : Given) (N n count : ℕ) → row g N ≡ row-asked n count → verdict g (N ∷ []) ≡ cond (not (ltb n count)) (refuses N count) accepted
+asked-verdict : (N n count : ℕ) → verdict (refusal N (row-asked n count) ∷ []) ≡ cond (not (ltb n count)) (refuses N count) accepted
 unfolding refuse-at Rising verdict
-asked-verdict g N n count e = place-verdict g N (suc count) ((count, not (ltb n count)) ∷ []) [] e (omega arith, omega arith, tt)
+asked-verdict N n count = place-verdict N (suc count) ((count, not (ltb n count)) ∷ []) [] (omega arith, omega arith, tt)
 
 -- Question k to file s: a call whose one check behind the header's is N, by the file's count. The code's answers stand for the call's, told n p
 -- for a refusal.
 record Question {A : Type 0} (stands-for : A → Answer) (told : ℕ → ℕ → A) (call : Call) (s : List ℕ) (N k count : ℕ) : Type 0 where
   says : (n p : ℕ) → stands-for (told n p) ≡ refused n p
-  gives : given-of call .file ≡ s
-  goes : order call ≡ 1 ∷ 2 ∷ 3 ∷ N ∷ []
-  bounds : row (given-of call) N ≡ row-asked k count
-  at-13 : lent-at-13 call ≡ []
-  lends : lent-before call ≡ []
-  returns : (n p : ℕ) → returned-refused call n p ≡ []
+  goes : call .checks ≡ header-checks s ++ (refusal N (row-asked k count) ∷ [])
+  leaves : (n : ℕ) → call .at-refusal .lent n (call .buffers) ≡ []
+  returns : (n p : ℕ) → call .at-refusal .returned n p ≡ []
 
 module _ {A : Type 0} (stands-for : A → Answer) (told : ℕ → ℕ → A) (call : Call) (s : List ℕ) (N k count : ℕ) (Q : Question stands-for told call s N k count) where
-  refuses-it : (n p : ℕ) → verdict (given-of call) (order call) ≡ refuses n p → answers (stands-for (told n p)) ≡ does call
-  refuses-it n p v = ap answers (Q .says n p) ∙ only-answer n p call (Q .at-13) (Q .lends) (Q .returns n p) v
+  refuses-it : (n p : ℕ) → verdict (call .checks) ≡ refuses n p → answers (stands-for (told n p)) ≡ does call
+  refuses-it n p v = ap answers (Q .says n p) ∙ only-answer n p call (Q .leaves n) (Q .returns n p) v
 
   -- a header's refusal goes out as it came
   header-out : (n p : ℕ) → header-of s ≡ HeaderRefused n p → answers (stands-for (told n p)) ≡ does call
-  header-out n p e = refuses-it n p (ap (verdict (given-of call)) (Q .goes) ∙ header-refused (given-of call) (N ∷ []) n p (ap header-of (Q .gives) ∙ e))
+  header-out n p e = refuses-it n p (ap verdict (Q .goes) ∙ header-refused s _ n p e)
 
-  answered : (c : Counts) → header-of s ≡ HeaderGood c → (m : ℕ) → m ≡ count → (is : A) → answers (stands-for is) ≡ when-good call
+  answered : (c : Counts) → header-of s ≡ HeaderGood c → (m : ℕ) → m ≡ count → (is : A) → answers (stands-for is) ≡ unrefused (call .good)
       → answers (stands-for (cond (leb m k) (told N m) is)) ≡ does call
   answered c e m em is w = go (leb m k) refl
     where
-      judged : verdict (given-of call) (order call) ≡ cond (not (ltb k m)) (refuses N m) accepted
+      judged : verdict (call .checks) ≡ cond (not (ltb k m)) (refuses N m) accepted
       judged =
-          ap (verdict (given-of call)) (Q .goes) ∙ header-good (given-of call) (N ∷ []) c (ap header-of (Q .gives) ∙ e)
-          ∙ asked-verdict (given-of call) N k count (Q .bounds) ∙ ap (λ (z : ℕ). cond (not (ltb k z)) (refuses N z) accepted) (sym em)
+          ap verdict (Q .goes) ∙ header-good s _ c e
+          ∙ asked-verdict N k count ∙ ap (λ (z : ℕ). cond (not (ltb k z)) (refuses N z) accepted) (sym em)
 
       go : (b : Bool) → leb m k ≡ b → answers (stands-for (cond b (told N m) is)) ≡ does call
       go true q = refuses-it N m (judged ∙ rw (le-ltb k m (leb-true _ _ q)))
@@ -71,16 +67,16 @@ module _ {A : Type 0} (stands-for : A → Answer) (told : ℕ → ℕ → A) (ca
 
 module _ (s : List ℕ) (k : ℕ) where
   gate-question : Question gate-answer GateRefused (GateAt s k) s 5 k (gates-of s)
-  unfolding gate-answer given-of order concerns those-of stands-in row row-gate refusal-table lent-at-13 lent-before returned-refused
-  gate-question = record { says = λ n p. refl; gives = refl; goes = refl; bounds = refl; at-13 = refl; lends = refl; returns = λ n p. refl }
+  unfolding gate-answer GateAt OwnerAt OutputAt
+  gate-question = record { says = λ n p. refl; goes = refl; leaves = λ n. refl; returns = λ n p. refl }
 
   owner-question : Question owner-answer OwnerRefused (OwnerAt s k) s 4 k (inputs-of s)
-  unfolding owner-answer given-of order concerns those-of stands-in row row-owner refusal-table lent-at-13 lent-before returned-refused
-  owner-question = record { says = λ n p. refl; gives = refl; goes = refl; bounds = refl; at-13 = refl; lends = refl; returns = λ n p. refl }
+  unfolding owner-answer GateAt OwnerAt OutputAt
+  owner-question = record { says = λ n p. refl; goes = refl; leaves = λ n. refl; returns = λ n p. refl }
 
   output-question : Question output-answer OutputRefused (OutputAt s k) s 6 k (outputs-of s)
-  unfolding output-answer given-of order concerns those-of stands-in row row-output refusal-table lent-at-13 lent-before returned-refused
-  output-question = record { says = λ n p. refl; gives = refl; goes = refl; bounds = refl; at-13 = refl; lends = refl; returns = λ n p. refl }
+  unfolding output-answer GateAt OwnerAt OutputAt
+  output-question = record { says = λ n p. refl; goes = refl; leaves = λ n. refl; returns = λ n p. refl }
 
   pub gate-refused : (n p : ℕ) → header-of s ≡ HeaderRefused n p → answers (gate-answer (GateRefused n p)) ≡ does (GateAt s k)
   gate-refused = header-out _ _ _ _ _ _ _ gate-question
@@ -93,15 +89,15 @@ module _ (s : List ℕ) (k : ℕ) where
 
 module _ (s : List ℕ) (c : Counts) (k : ℕ) (o : Opened s c) (e : header-of s ≡ HeaderGood c) where
   pub gate-law : answers (gate-answer (gate-by s c k)) ≡ does (GateAt s k)
-  unfolding gate-by gate-answer when-good
+  unfolding gate-by gate-answer GateAt OwnerAt OutputAt
   gate-law = answered _ _ _ _ _ _ _ (gate-question s k) c e (c .gates) (o .gates-are) _ (ap (λ (i : ℕ). answers (good (kind-at s i k ∷ first-at s i k ∷ second-at s i k ∷ []))) (o .ins-are))
 
   pub owner-law : answers (owner-answer (owner-by s c k)) ≡ does (OwnerAt s k)
-  unfolding owner-by owner-answer when-good
+  unfolding owner-by owner-answer GateAt OwnerAt OutputAt
   owner-law = answered _ _ _ _ _ _ _ (owner-question s k) c e (c .inputs) (o .ins-are) _ refl
 
   pub output-law : answers (output-answer (output-by s c k)) ≡ does (OutputAt s k)
-  unfolding output-by output-answer when-good
+  unfolding output-by output-answer GateAt OwnerAt OutputAt
   output-law = answered _ _ _ _ _ _ _ (output-question s k) c e (c .outputs) (o .outs-are) _ (ap₂ (λ (i g : ℕ). answers (good (output-at s i g k ∷ []))) (o .ins-are) (o .gates-are))
 
 -- a question by a number below its count, for loops that ask only those

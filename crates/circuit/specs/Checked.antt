@@ -5,14 +5,16 @@ use mathlib.Core.List.{List}
 use Prim.Native.Nat.{ℕ, _+_, _<_}
 use Rattle.scope.specs.File.{kind-at, first-at, second-at, owner-at, output-at}
 use Rattle.scope.specs.Checks.{one-to-three, good-gate}
+use Rattle.scope.specs.Calls.{Check, Accepts}
 use Rattle.header.specs.declared.Counts.{Counts}
 use Rattle.header.specs.declared.Header.{Header}
 use Rattle.header.specs.declared.Header.the-variants.{Good, Refused}
 use Rattle.header.specs.Opened.{Opened}
 
--- every owner is 1 to 3, every gate is good (its operands lower wires), every output is a wire
+-- the check accepts: every owner is 1 to 3, every gate is good (its operands lower wires), every output is a wire
 pub record Checked (s : List ℕ) (c : Counts) : Type 0 where
   pub opened : Opened s c
+  pub passes : Accepts (Check s)
   pub owners : (k : ℕ) → k < c .inputs → one-to-three (owner-at s k) ≡ true
   pub gates : (k : ℕ) → k < c .gates → good-gate (kind-at s (c .inputs) k) (first-at s (c .inputs) k) (second-at s (c .inputs) k) (c .inputs + k) ≡ true
   pub outputs : (k : ℕ) → k < c .outputs → output-at s (c .inputs) (c .gates) k < c .inputs + c .gates

@@ -1,2 +1,3 @@
+pub mod PublicLaws
 pub mod Demands
 pub mod Marked

@@ -1,6 +1,6 @@
 -- K1 to K12 of 01, computed: one theorem over the list of rows.
 use mathlib.Core.Path.{_≡_, refl}
-use mathlib.Core.List.{List, map}
+use mathlib.Core.List.{map}
 use Rattle.sharing.specs.Sites.{is, if-own}
 use Rattle.sharing.specs.Circuit.{dealing, ands, owned}
 use Rattle.sharing.specs.Values.{value-gate, value-inputs, values}
@@ -17,14 +17,12 @@ use Rattle.sharing.specs.Retape.{next-shares, shift, retape, new-tapes}
 use Rattle.sharing.specs.Traffic.{input-adds, gate-adds, output-adds, sum, entry, traffic-table, add-row, add-up}
 use Rattle.scope.specs.File.{le16, le32, size, owner-at, kind-at, first-at, second-at, output-at, site-of, gate-of}
 use Rattle.scope.specs.Plain.{bit, byte, plain-gate, plain-inputs, plain-values, plain}
-use Rattle.scope.specs.Answer.{After}
-use Rattle.scope.specs.Checks.{tested, row-owner, good-gate, row-gate, row-output, refusal-table, row, fault, verdict}
-use Rattle.scope.specs.Refusal.{stands-in, those-of}
+use Rattle.scope.specs.Checks.{tested, row-owner, good-gate, row-gate-of, row-output, fault, verdict}
 use Rattle.scope.specs.Listing.{digits, decimal, out-lines, good-text, refused-text}
-use Rattle.scope.specs.Calls.{given-of, concerns, order, ran, both-plain, work-room, when-good, lent-before, lent-at-13, when-refused, returned-refused, settle, does}
+use Rattle.scope.specs.Calls.{CheckOf, TrafficOf, RunOf, ViewOf, RetapeOf, Listing, ran-of, both-plain-of, work-room-of, settle, does}
 use Rattle.demands.specs.Marked.{Row, rows}
 
 -- every row's call does what is wanted
 pub marked : map (λ (r : Row). does (r .call)) rows ≡ map (λ (r : Row). r .wanted) rows
-unfolding is if-own dealing ands owned value-gate value-inputs values if-deals ins-routes gates-routes routes pick mul-parts gate-parts ins-parts parts objecting copies delivered in-wire delivered3 mix gate-wire gate-delivered six opened first ins-after after ins-delivered gates-delivered output out-delivered objects stop opens-delivered made transcript opened-at outputs tape-length draws ins-tape tape at-input at-gate at-output errors side store fill own-ins seen-outs view-from next-shares shift retape new-tapes input-adds gate-adds output-adds sum entry traffic-table add-row add-up le16 le32 size owner-at kind-at first-at second-at output-at site-of gate-of bit byte plain-gate plain-inputs plain-values plain tested row-owner good-gate row-gate row-output refusal-table row fault verdict digits decimal out-lines good-text refused-text given-of concerns those-of stands-in order ran both-plain work-room when-good lent-before lent-at-13 when-refused returned-refused settle does
+unfolding is if-own dealing ands owned value-gate value-inputs values if-deals ins-routes gates-routes routes pick mul-parts gate-parts ins-parts parts objecting copies delivered in-wire delivered3 mix gate-wire gate-delivered six opened first ins-after after ins-delivered gates-delivered output out-delivered objects stop opens-delivered made transcript opened-at outputs tape-length draws ins-tape tape at-input at-gate at-output errors side store fill own-ins seen-outs view-from next-shares shift retape new-tapes input-adds gate-adds output-adds sum entry traffic-table add-row add-up le16 le32 size owner-at kind-at first-at second-at output-at site-of gate-of bit byte plain-gate plain-inputs plain-values plain tested row-owner good-gate row-gate-of row-output fault verdict digits decimal out-lines good-text refused-text ran-of both-plain-of work-room-of settle does CheckOf TrafficOf RunOf ViewOf RetapeOf Listing
 marked = refl

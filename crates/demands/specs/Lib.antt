@@ -1,1 +1,2 @@
+pub mod Public
 pub mod Marked

@@ -19,14 +19,15 @@ use Rattle.sharing.specs.Circuit.{Circuit, wires}
 use Rattle.sharing.specs.First.{first}
 use Rattle.sharing.proofs.FirstLaws.{first-at, first-none, first-hit, first-before, first-le}
 use Rattle.scope.specs.File.{output-at, site-of, circuit}
-use Rattle.scope.specs.Checks.{fault, row-differs}
+use Rattle.scope.specs.Checks.{fault}
 use Rattle.scope.specs.Plain.{plain, plain-out}
-use Rattle.scope.specs.Calls.{both-plain}
+use Rattle.scope.specs.Calls.{both-plain-of}
+use Rattle.scope.specs.AtBits.{row-differs, both-plain}
 use Rattle.scope.proofs.PlainLaws.{plain-length}
 use Rattle.scope.proofs.RowLaws.{differs}
 use Rattle.header.specs.declared.Counts.{Counts}
 use Rattle.circuit.specs.Checked.{Checked}
-use Rattle.differs.specs.Mirror.{own-differs, opened-differs, two-sets}
+use Rattle.differs.specs.Mirror.{own-differs, opened-differs}
 
 pub own-law : (f : List ℕ) (s : Site) (x y : List ℕ) (k r : ℕ) → r ≡ cond (is s (circuit f .owner k)) 1 0
     → (eqb r 1 && not (eqb (getD x k 0) (getD y k 0))) ≡ own-differs f s x y k
@@ -69,13 +70,13 @@ module _ (f x y : List ℕ) (s : Site) (c : Counts) (ck : Checked f c) where
     Opened j = j ≡ first (opened-differs f (c .inputs) (c .gates) room) (c .outputs)
 
     first-value : (w : ℕ) → w < wires C → getD room w 0 ≡ getD (plain C x) w 0
-    unfolding both-plain
+    unfolding both-plain-of
     first-value w h =
         let i = ck .opened .ins-are in let g = ck .opened .gates-are in let l = plain-length C x in
         sym (getD-take (2 * (c .inputs + c .gates)) room w 0 (omega arith)) ∙ ap (λ (z : List ℕ). getD z w 0) hr ∙ List·getD-append (plain C x) (plain C y) 0 w (omega arith)
 
     second-value : (w : ℕ) → w < wires C → getD room (c .inputs + c .gates + w) 0 ≡ getD (plain C y) w 0
-    unfolding both-plain
+    unfolding both-plain-of
     second-value w h =
         let i = ck .opened .ins-are in let g = ck .opened .gates-are in let l = plain-length C x in
         let e : c .inputs + c .gates + w ≡ length (plain C x) + w = omega arith in
@@ -122,12 +123,12 @@ module _ (f x y : List ℕ) (s : Site) (c : Counts) (ck : Checked f c) where
 
 -- so the place of 13 is the row's fault
 module _ (f x y : List ℕ) (site : ℕ) (c : Counts) (ck : Checked f c) (i : ℕ) (ei : i ≡ first (own-differs f (site-of site) x y) (c .inputs)) where
-  pub own-fault : i < c .inputs → i ≡ fault (row-differs (two-sets f x y site))
+  pub own-fault : i < c .inputs → i ≡ fault (row-differs (circuit f) site x y)
   unfolding fault
   own-fault h = own-place f x y (site-of site) c ck i ei h
 
   pub opened-fault : (room : List ℕ) → take (2 * (c .inputs + c .gates)) room ≡ both-plain (circuit f) x y → c .inputs ≤ i
-      → (j : ℕ) → j ≡ first (opened-differs f (c .inputs) (c .gates) room) (c .outputs) → c .inputs + j ≡ fault (row-differs (two-sets f x y site))
+      → (j : ℕ) → j ≡ first (opened-differs f (c .inputs) (c .gates) room) (c .outputs) → c .inputs + j ≡ fault (row-differs (circuit f) site x y)
   unfolding fault
   opened-fault room hr hi j ej =
       ⊎-elim

@@ -4,10 +4,10 @@ ghost use Prim.Native.Nat.{_+_, _*_, _<_};
 ghost use lib.ListN.{length, take};
 ghost use Rattle.sharing.specs.First.{first};
 ghost use Rattle.scope.specs.File.{circuit, site-of};
-ghost use Rattle.scope.specs.Checks.{fault, row-differs};
-ghost use Rattle.scope.specs.Calls.{both-plain};
+ghost use Rattle.scope.specs.Checks.{fault};
+ghost use Rattle.scope.specs.AtBits.{row-differs, both-plain};
 ghost use Rattle.circuit.specs.Checked.{Checked};
-ghost use Rattle.differs.specs.Mirror.{own-differs, opened-differs, two-sets};
+ghost use Rattle.differs.specs.Mirror.{own-differs, opened-differs};
 use circuit::Output;
 use header::Counts;
 
@@ -70,7 +70,7 @@ pub fn first_opened(file: &[u8], c: Counts, room: &[u8]) -> usize
 pub fn differ(file: &[u8], c: Counts, site: usize, xs: &[u8], ys: &[u8], room: &[u8]) -> usize
     requires { ⌜ Checked (now file) c × (length (now xs) ≡ c .inputs) × (length (now ys) ≡ c .inputs) ⌝ }
     requires { ⌜ (length (now room) ≡ 4 * (c .inputs + c .gates)) × (take (2 * (c .inputs + c .gates)) (now room) ≡ both-plain (circuit (now file)) (now xs) (now ys)) ⌝ }
-    ensures { λ r. ⌜ r ≡ fault (row-differs (two-sets (now (file .entry)) (now (xs .entry)) (now (ys .entry)) site)) ⌝ }
+    ensures { λ r. ⌜ r ≡ fault (row-differs (circuit (now (file .entry))) site (now (xs .entry)) (now (ys .entry))) ⌝ }
 {
     let i = first_own(file, c, site, xs, ys);
     if i < c.inputs {

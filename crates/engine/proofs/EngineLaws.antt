@@ -79,6 +79,13 @@ and-or-lower (suc (suc zero)) a b w p q h = h
 and-or-lower (suc (suc (suc zero))) a b w p q h = absurd (q refl)
 and-or-lower (suc (suc (suc (suc n)))) a b w p q h = h
 
+-- lower than a wire is lower than all
+pub lower-up : (k : Gate) (w n : ℕ) → Lower k w → w ≤ n → Lower k n
+lower-up (XOR a b) w n p h = let x = p .0 in let y = p .1 in (omega arith, omega arith)
+lower-up (AND a b) w n p h = let x = p .0 in let y = p .1 in (omega arith, omega arith)
+lower-up (OR a b) w n p h = let x = p .0 in let y = p .1 in (omega arith, omega arith)
+lower-up (NOT a) w n p h = let x = p .0 in let y = p .1 in (omega arith, omega arith)
+
 -- it deals once
 pub and-or-deals : (kind a b : ℕ) → (kind ≡ 1 → ⊥) → (kind ≡ 3 → ⊥) → dealing (gate-of kind a b) ≡ 1
 unfolding dealing
@@ -90,6 +97,11 @@ pub gate-lower : (s : List ℕ) (c : Counts) (k kind a b : ℕ) (r : Read) → C
 gate-lower s c k kind a b r o e q h =
     let v = gate-some s c k kind a b r e q h in
     lower-of kind a b (c .inputs + k) ((λ i. good-gate (v .0 i) (v .1 i) (v .2 i) (c .inputs + k)) ∙ o .gates k h)
+
+-- and so wires of the file
+pub gate-below : (s : List ℕ) (c : Counts) (k kind a b : ℕ) (r : Read) → Checked s c → r ≡ gate-by s c k → r ≡ GateIs kind a b → k < c .gates
+    → Lower (gate-of kind a b) (c .inputs + c .gates)
+gate-below s c k kind a b r o e q h = lower-up (gate-of kind a b) (c .inputs + k) (c .inputs + c .gates) (gate-lower s c k kind a b r o e q h) (omega arith)
 
 -- ---- the places after gates
 unfoldable pub moved : ℕ → Pos → Pos

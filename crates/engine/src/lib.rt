@@ -45,7 +45,7 @@ pub fn and_gate(
     pos: Pos,
 ) -> Pos
     requires { ⌜ (length (now store) ≡ 6 * n) × (n ≤ 4096) ⌝ }
-    requires { ⌜ (a < w) × (b < w) × (w < n) ⌝ }
+    requires { ⌜ (a < n) × (b < n) × (w < n) ⌝ }
     requires { ⌜ Room 1 (length (now tapes)) (length (now line)) (length (now room)) pos ⌝ }
     ensures { λ r. ⌜ st (now (store .exit)) (now (room .exit)) r ≡ and-on (now (tapes .entry)) (now (line .entry)) n a b w o (st (now (store .entry)) (now (room .entry)) pos) ⌝ }
 {
@@ -71,7 +71,7 @@ fn kind_step(
     pos: Pos,
 ) -> Pos
     requires { ⌜ (length (now store) ≡ 6 * n) × (n ≤ 4096) ⌝ }
-    requires { ⌜ Lower (gate-of kind a b) w × (w < n) ⌝ }
+    requires { ⌜ Lower (gate-of kind a b) n × (w < n) ⌝ }
     requires { ⌜ Room (dealing (gate-of kind a b)) (length (now tapes)) (length (now line)) (length (now room)) pos ⌝ }
     ensures { λ r. ⌜ st (now (store .exit)) (now (room .exit)) r ≡ gate-on (now (tapes .entry)) (now (line .entry)) n w (gate-of kind a b) (st (now (store .entry)) (now (room .entry)) pos) ⌝ }
 {

@@ -6,14 +6,12 @@
 --     open-one         so of opening
 -- Assumes nothing.
 use mathlib.Core.Path.{_≡_, refl, sym, ap, _∙_, subst}
-use mathlib.Core.Bool.{true≢false}
 use mathlib.Core.List.{List, [], _∷_}
 use Prim.Native.Nat.{ℕ}
-use Rattle.scope.specs.Answer.{Answer, good, refused, After}
+use Rattle.scope.specs.Answer.{Answer, good, refused, done, After}
 use Rattle.scope.specs.Checks.{refuses, verdict}
-use Rattle.scope.specs.Refusal.{stands-in, those-of}
-use Rattle.scope.specs.Calls.{Call, Open, given-of, concerns, order, answers, when-good, lent-before, lent-at-13, returned-refused, does}
-use Rattle.scope.proofs.CallLaws.{is-refusal, does-good, refused-leaves}
+use Rattle.scope.specs.Calls.{Call, Open, answers, does}
+use Rattle.scope.proofs.CallLaws.{said-not-refused, does-good, does-refused}
 use Rattle.header.specs.declared.Counts.{Counts}
 use Rattle.header.specs.declared.Header.{Header}
 use Rattle.header.specs.declared.Header.the-variants.{Good as HeaderGood, Refused as HeaderRefused}
@@ -23,27 +21,26 @@ use Rattle.header.specs.Opened.{Opened, IsOpened}
 use Rattle.header.proofs.HeaderLaws.{header-refused, header-good}
 
 pub good-is-not-refused : (l : List ℕ) (n p : ℕ) → ¬ (good l ≡ refused n p)
-good-is-not-refused l n p e = true≢false (sym (ap is-refusal e))
+good-is-not-refused l = said-not-refused (done l)
 
 -- a refused call that is lent nothing answers its refusal and nothing else
 module _ (n p : ℕ) where
-  pub only-answer : (c : Call) → lent-at-13 c ≡ [] → lent-before c ≡ [] → returned-refused c n p ≡ [] → verdict (given-of c) (order c) ≡ refuses n p → answers (refused n p) ≡ does c
-  only-answer c e13 e r v =
-      sym (refused-leaves c n p r (e13 ∙ sym e) v ∙ ap (λ (l : List (List ℕ)). record { answer = refused n p; returned = []; lent = l }) e)
+  pub only-answer : (c : Call) → c .at-refusal .lent n (c .buffers) ≡ [] → c .at-refusal .returned n p ≡ [] → verdict (c .checks) ≡ refuses n p → answers (refused n p) ≡ does c
+  only-answer c l r v = sym (does-refused c n p v ∙ (λ i. record { answer = refused n p; returned = r i; lent = l i }))
 
-  open-refuses : (s : List ℕ) → verdict (given-of (Open s)) (order (Open s)) ≡ refuses n p → answers (header-answer (HeaderRefused n p)) ≡ does (Open s)
-  unfolding header-answer lent-at-13 lent-before returned-refused
-  open-refuses s = only-answer (Open s) refl refl refl
+  open-refuses : (s : List ℕ) → verdict (Open s .checks) ≡ refuses n p → answers (header-answer (HeaderRefused n p)) ≡ does (Open s)
+  unfolding header-answer Open
+  open-refuses s = only-answer (Open s) refl refl
 
-open-verdict : (s : List ℕ) (n p : ℕ) → header-of s ≡ HeaderRefused n p → verdict (given-of (Open s)) (order (Open s)) ≡ refuses n p
-unfolding order concerns those-of stands-in given-of
-open-verdict s n p e = header-refused (given-of (Open s)) [] n p e
+open-verdict : (s : List ℕ) (n p : ℕ) → header-of s ≡ HeaderRefused n p → verdict (Open s .checks) ≡ refuses n p
+unfolding Open
+open-verdict s n p e = header-refused s [] n p e
 
 open-good : (s : List ℕ) (c : Counts) → Opened s c → header-of s ≡ HeaderGood c → answers (header-answer (HeaderGood c)) ≡ does (Open s)
-unfolding header-answer when-good order concerns those-of stands-in given-of verdict
+unfolding header-answer verdict Open
 open-good s c o e =
     (λ i. answers (good (o .ins-are i ∷ o .gates-are i ∷ o .outs-are i ∷ [])))
-    ∙ sym (does-good (Open s) (header-good (given-of (Open s)) [] c e))
+    ∙ sym (does-good (Open s) (header-good s [] c e))
 
 pub open-law : (s : List ℕ) (h : Header) → h ≡ header-of s → IsOpened h s → answers (header-answer h) ≡ does (Open s)
 open-law s (HeaderGood c) e o = open-good s c o (sym e)

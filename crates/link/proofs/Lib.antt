@@ -1,11 +1,10 @@
 pub mod FillLaws
 pub mod PartLaws
-pub mod GateLaws
-pub mod InLaws
-pub mod OpenLaws
-pub mod BitLinks
+pub mod ReadLaws
+pub mod GateReads
+pub mod WireLaws
+pub mod StoredLaws
 pub mod DrawLaws
-pub mod GatesLaw
-pub mod InputsLaw
-pub mod OpensLaw
+pub mod EngineRuns
 pub mod WholeLaw
+pub mod OpensLaw

@@ -1,2 +1,3 @@
 pub mod Link
 pub mod Loops
+pub mod Places

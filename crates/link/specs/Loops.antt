@@ -1,19 +1,13 @@
--- The states of a run between its steps, as the document has them.
+-- Where a run stands on the tapes and on the line between its steps, as the document has it.
 --     base                where a site's tape begins in the one slice
 --     place, in-place     the running places after so many dealing gates, and after so many inputs
 --     site-place          a site's running place
---     state, in-state     store, transcript and places after the first g gates, and after the first i inputs
-use mathlib.Core.List.{List}
 use Prim.Native.Nat.{ℕ, _+_, _*_}
-use Rattle.sharing.specs.Ops.{bits}
-use Rattle.sharing.specs.Sites.{Site, s1, s2, s3, Trio}
-use Rattle.sharing.specs.Circuit.{Circuit, Draws, Errors, ands, owned, all-owned}
-use Rattle.sharing.specs.Run.{ins-after, after, ins-delivered, gates-delivered}
+use Rattle.sharing.specs.Sites.{Site, s1, s2, s3}
+use Rattle.sharing.specs.Circuit.{Circuit, owned, all-owned}
 use Rattle.sharing.specs.Tapes.{tape-length}
-use Rattle.sharing.specs.Store.{fill}
 use Rattle.engine.specs.declared.Pos.{Pos}
-use Rattle.engine.specs.Mirror.{St, st, placed}
-use Rattle.link.specs.Link.{stored}
+use Rattle.engine.specs.Mirror.{placed}
 
 -- 01: "Tapes stand in one slice, site 1's first"
 unfoldable pub base : Circuit → Site → ℕ
@@ -37,11 +31,3 @@ abbrev pub site-place : Pos → Site → ℕ
 site-place p s1 = p .t1
 site-place p s2 = p .t2
 site-place p s3 = p .t3
-
--- over a store o and a transcript tr of whatever was there before
-module _ (C : Circuit) (x : ℕ → ℕ) (T : Draws) (E : Errors) (o : Trio (List ℕ)) (tr : List ℕ) where
-  unfoldable pub state : ℕ → St
-  state g = st (stored o (after bits C x T E g)) (fill tr (gates-delivered bits C x T E g)) (place C (ands (C .gate) g))
-
-  unfoldable pub in-state : ℕ → St
-  in-state i = st (stored o (ins-after bits C x T E i)) (fill tr (ins-delivered bits C x T E i)) (in-place C i)

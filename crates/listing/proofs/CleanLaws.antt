@@ -19,7 +19,7 @@ use Rattle.scope.specs.File.{circuit}
 use Rattle.scope.specs.Answer.{After}
 use Rattle.scope.specs.Checks.{line-want}
 use Rattle.scope.specs.Statements.{Clean}
-use Rattle.scope.specs.Calls.{ran}
+use Rattle.scope.specs.AtBits.{ran}
 use Rattle.scope.proofs.RunCall.{clean-errors, bit-draws, ran-quiet}
 use Rattle.header.specs.declared.Counts.{Counts}
 use Rattle.given.proofs.GivenLaws.{line-is}

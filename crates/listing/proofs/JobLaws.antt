@@ -5,7 +5,7 @@
 -- Assumes nothing.
 use mathlib.Core.Path.{_≡_, refl, sym, ap, _∙_}
 use mathlib.Core.Bool.{Bool, true, false, not, true≢false, _&&_, _||_}
-use mathlib.Core.List.{List, [], _∷_}
+use mathlib.Core.List.{List, [], _∷_, _++_}
 use Prim.Native.Nat.{ℕ, _+_, _-_, _<_, _≤_}
 use native.Mathlib.Omega.{arith}
 use lib.ListN.{length, take, drop, length-drop}
@@ -14,16 +14,14 @@ use lib.Dec.{eqb, leb}
 use borrow.Author.Tests.{leb-true}
 use Rattle.sharing.proofs.FirstLaws.{Clear}
 use Rattle.scope.specs.File.{le32}
-use Rattle.scope.specs.Answer.{refused}
-use Rattle.scope.specs.Checks.{Given, tested, row-job, row, refusal-table, Verdict, accepted, refuses, verdict}
-use Rattle.scope.specs.Refusal.{stands-in, those-of}
-use Rattle.scope.specs.Listing.{refused-text}
-use Rattle.scope.specs.Calls.{Listing, given-of, concerns, order, lent-before, lent-at-13, when-good, when-refused, returned-refused, job-file, job-inputs, job-tapes, settle, does}
+use Rattle.scope.specs.Checks.{Refusal, refusal, tested, row-job, Verdict, accepted, refuses, verdict}
+use Rattle.scope.specs.AtBits.{circuit-checks}
+use Rattle.scope.specs.Calls.{Listing, job-file, job-inputs, job-tapes, settle, does}
 use Rattle.scope.proofs.Refusals.{accepted-passes, Passes, row-refuses, row-passes}
-use Rattle.scope.proofs.CallLaws.{cond-same, does-refused}
+use Rattle.scope.proofs.CallLaws.{does-refused}
 use Rattle.slices.specs.Mirror.{job-fault-of}
 use Rattle.circuit.proofs.CheckedLaws.{both}
-use Rattle.given.specs.Mirror.{slices}
+use Rattle.given.specs.Mirror.{slices-checks}
 use Rattle.slices.proofs.ChainLaws.{nothing}
 use Rattle.listing.specs.Mirror.{says-refused, judged, says}
 
@@ -39,43 +37,33 @@ pub record Offsets (j : List ℕ) : Type 0 where
   pub tapes-to : le32 j 12 ≤ length j
 
 module _ (j : List ℕ) (p : ℕ) (e : p ≡ job-fault-of j) where
-  abbrev gj : Given
-  gj = given-of (Listing j)
+  abbrev Eight : List Refusal
+  Eight = circuit-checks (job-file j) ++ slices-checks (job-file j) (job-inputs j) (job-tapes j)
 
-  abbrev Eight : List ℕ
-  Eight = 1 ∷ 2 ∷ 3 ∷ 4 ∷ 5 ∷ 6 ∷ 7 ∷ 8 ∷ []
-
-  row-14 : row gj 14 ≡ row-job gj
-  unfolding row refusal-table
-  row-14 = refl
+  goes : Listing j .checks ≡ refusal 14 (row-job j) ∷ Eight
+  unfolding Listing
+  goes = refl
 
   pub job-refused : p < 13 → says-refused 14 p ≡ does (Listing j)
-  unfolding order concerns those-of stands-in when-refused lent-at-13 lent-before returned-refused
-  job-refused h = sym (does-refused (Listing j) 14 p (sym (row-refuses gj 14 Eight (row-job gj) p row-14 e h)))
+  unfolding Listing
+  job-refused h = sym (does-refused (Listing j) 14 p (sym (row-refuses 14 Eight (row-job j) p e h)))
 
   settled : (v : Verdict) → judged (job-file j) (job-inputs j) (job-tapes j) v ≡ settle (Listing j) v
-  unfolding judged settle when-good when-refused lent-at-13 lent-before returned-refused
+  unfolding judged settle Listing
   settled accepted = refl
-  settled (refuses n q) = λ i. record { answer = refused n q; returned = refused-text n q ∷ []; lent = sym (cond-same {A = List (List ℕ)} (eqb n 13) []) i }
-
-  -- 1 to 8 ask for the parts alone
-  parts-same : verdict (slices (job-file j) (job-inputs j) (job-tapes j)) Eight ≡ verdict gj Eight
-  unfolding verdict row refusal-table given-of
-  parts-same = refl
+  settled (refuses n q) = refl
 
   module _ (h : 13 ≤ p) where
     pub job-parts : says (job-file j) (job-inputs j) (job-tapes j) ≡ does (Listing j)
-    unfolding does order concerns those-of stands-in
-    job-parts =
-        settled (verdict (slices (job-file j) (job-inputs j) (job-tapes j)) Eight)
-        ∙ ap (settle (Listing j)) (parts-same ∙ row-passes gj 14 Eight (row-job gj) p row-14 e h)
+    unfolding does
+    job-parts = settled (verdict Eight) ∙ ap (settle (Listing j)) (row-passes 14 Eight (row-job j) p e h ∙ ap verdict (sym goes))
 
-    clear-14 : Clear (row-job gj .bad) 13
-    unfolding Passes row refusal-table
-    clear-14 = accepted-passes gj (14 ∷ []) (sym (nothing gj ∙ row-passes gj 14 [] (row-job gj) p row-14 e h)) .0
+    clear-14 : Clear (row-job j .bad) 13
+    unfolding Passes
+    clear-14 = accepted-passes (refusal 14 (row-job j) ∷ []) (sym (nothing ∙ row-passes 14 [] (row-job j) p e h)) .0
 
     pub offsets : Offsets j
-    unfolding given-of tested
+    unfolding tested
     offsets =
         let a = both (leb 16 (length j)) (leb (length j) 41520) (both (leb 16 (length j) && leb (length j) 41520) (eqb (le32 j 0) (length j)) (not-false _ (clear-14 0 (omega arith))) .0) in
         let b = both (leb 16 (le32 j 8)) (leb (le32 j 8) (length j)) (not-false _ (clear-14 8 (omega arith))) in

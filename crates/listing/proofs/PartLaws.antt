@@ -2,58 +2,56 @@
 --     circuit-told, slices-told, good-told    the three ways out
 --     fit                                     what they leave
 -- Assumes nothing.
-use mathlib.Core.Path.{_≡_, refl, sym, ap, _∙_, subst}
-use mathlib.Core.List.{List, [], _∷_, _++_}
-use Prim.Native.Nat.{ℕ, _+_, _-_, _≤_}
+use mathlib.Core.Path.{_≡_, sym, ap, _∙_, subst}
+use mathlib.Core.List.{List, _++_}
+use Prim.Native.Nat.{ℕ, _≤_}
 use Rattle.sharing.specs.Circuit.{ands}
 use Rattle.scope.specs.File.{inputs-of, circuit}
-use Rattle.scope.specs.Checks.{Given, row, refusal-table, tapes-want, accepted, verdict}
+use Rattle.scope.specs.Checks.{Refusal, tapes-want, accepted, verdict}
+use Rattle.scope.specs.AtBits.{circuit-checks}
 use Rattle.scope.specs.Statements.{Bits}
 use Rattle.scope.specs.Calls.{Check, answers, does}
 use Rattle.scope.proofs.Refusals.{accepted-passes, Passes}
 use Rattle.scope.proofs.RowLaws.{bits-clear}
 use Rattle.header.specs.declared.Counts.{Counts}
 use Rattle.header.specs.declared.Header.{Header}
-use Rattle.header.specs.declared.Header.the-variants.{Good as HeaderGood, Refused as HeaderRefused}
+use Rattle.header.specs.declared.Header.the-variants.{Refused as HeaderRefused}
 use Rattle.header.specs.Answers.{header-answer}
 use Rattle.circuit.specs.Checked.{Checked}
 use Rattle.given.specs.declared.Fault.{Fault}
-use Rattle.checks.proofs.FrontLaws.{one-to-six, circuit-refuses, circuit-passes}
-use Rattle.given.specs.Mirror.{slices, found}
+use Rattle.checks.proofs.FrontLaws.{circuit-refuses, circuit-passes}
+use Rattle.given.specs.Mirror.{slices-checks, found}
 use Rattle.given.proofs.GivenLaws.{found-no, found-yes}
 use Rattle.listing.specs.Mirror.{Fit, says-good, says-refused, says-header, judged, says}
 
-module _ (f x t : List ℕ) (h : Header) (e : answers (header-answer h) ≡ does (Check f)) where
-  abbrev g : Given
-  g = slices f x t
+module _ (f x t : List ℕ) where
+  abbrev Two : List Refusal
+  Two = slices-checks f x t
 
-  abbrev Two : List ℕ
-  Two = 7 ∷ 8 ∷ []
-
-  pub circuit-told : (n p : ℕ) → h ≡ HeaderRefused n p → says-header h ≡ says f x t
+  pub circuit-told : (h : Header) → answers (header-answer h) ≡ does (Check f) → (n p : ℕ) → h ≡ HeaderRefused n p → says-header h ≡ says f x t
   unfolding judged
-  circuit-told n p q = ap says-header q ∙ sym (ap (judged f x t) (circuit-refuses g refl h e n p q Two))
+  circuit-told h e n p q = ap says-header q ∙ sym (ap (judged f x t) (circuit-refuses f h e n p q Two))
 
-  module _ (c : Counts) (q : h ≡ HeaderGood c) (u : Fault) (v : found u ≡ verdict g Two) where
-    past : verdict g (one-to-six ++ Two) ≡ verdict g Two
-    past = circuit-passes g refl h e c q Two
+  module _ (c : Counts) (k : Checked f c) (u : Fault) (v : found u ≡ verdict Two) where
+    past : verdict (circuit-checks f ++ Two) ≡ verdict Two
+    past = circuit-passes f (k .passes) Two
 
     pub slices-told : (u .number ≡ 0 → ⊥) → says-refused (u .number) (u .place) ≡ says f x t
     unfolding judged
     slices-told n = sym (ap (judged f x t) (past ∙ found-no u _ v n))
 
     module _ (z : u .number ≡ 0) where
-      clear : verdict g Two ≡ accepted
+      clear : verdict Two ≡ accepted
       clear = found-yes u _ v z
 
       pub good-told : says-good f x t ≡ says f x t
       unfolding judged
       good-told = sym (ap (judged f x t) (past ∙ clear))
 
-      pub fit : (a : ℕ) → Checked f c → a ≡ ands (circuit f .gate) (c .gates) → a ≤ c .gates → Fit f c a x t
-      unfolding Passes row refusal-table
-      fit a k ea l =
-          let p = accepted-passes g Two clear in
+      pub fit : (a : ℕ) → a ≡ ands (circuit f .gate) (c .gates) → a ≤ c .gates → Fit f c a x t
+      unfolding Passes
+      fit a ea l =
+          let p = accepted-passes Two clear in
           record {
             checked = k;
             counted = ea;

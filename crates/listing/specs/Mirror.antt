@@ -3,7 +3,7 @@
 --     says-good, says-refused, says-header    the answer and the text, where nothing is refused, and of a refusal
 --     says                            of a job's three parts
 use mathlib.Core.Path.{_≡_}
-use mathlib.Core.List.{List, [], _∷_}
+use mathlib.Core.List.{List, [], _∷_, _++_}
 use Prim.Native.Nat.{ℕ, _≤_}
 use lib.ListN.{length}
 use Rattle.sharing.specs.Ops.{bits}
@@ -13,6 +13,7 @@ use Rattle.sharing.specs.Tapes.{read}
 use Rattle.scope.specs.File.{circuit}
 use Rattle.scope.specs.Answer.{good, refused, After}
 use Rattle.scope.specs.Checks.{tapes-want, Verdict, accepted, refuses, verdict}
+use Rattle.scope.specs.AtBits.{circuit-checks}
 use Rattle.scope.specs.Calls.{at-wire}
 use Rattle.scope.specs.Listing.{good-text, refused-text}
 use Rattle.scope.specs.Statements.{Bits}
@@ -20,7 +21,7 @@ use Rattle.header.specs.declared.Counts.{Counts}
 use Rattle.header.specs.declared.Header.{Header}
 use Rattle.header.specs.declared.Header.the-variants.{Good as HeaderGood, Refused as HeaderRefused}
 use Rattle.circuit.specs.Checked.{Checked}
-use Rattle.given.specs.Mirror.{slices}
+use Rattle.given.specs.Mirror.{slices-checks}
 
 pub record Fit (f : List ℕ) (c : Counts) (a : ℕ) (x t : List ℕ) : Type 0 where
   pub checked : Checked f c
@@ -49,4 +50,4 @@ judged f x t accepted = says-good f x t
 judged f x t (refuses n p) = says-refused n p
 
 abbrev pub says : List ℕ → List ℕ → List ℕ → After
-says f x t = judged f x t (verdict (slices f x t) (1 ∷ 2 ∷ 3 ∷ 4 ∷ 5 ∷ 6 ∷ 7 ∷ 8 ∷ []))
+says f x t = judged f x t (verdict (circuit-checks f ++ slices-checks f x t))

@@ -10,6 +10,7 @@ ghost use Rattle.sharing.specs.Tapes.{read};
 ghost use Rattle.scope.specs.File.{circuit};
 ghost use Rattle.scope.specs.Statements.{Clean};
 ghost use Rattle.scope.specs.Calls.{at-wire, Listing, does};
+ghost use Rattle.circuit.specs.Checked.{Checked};
 ghost use Rattle.listing.specs.Answers.{listed-after, Rest};
 ghost use Rattle.listing.specs.Mirror.{Fit, says-good, says-refused, says-header, says};
 use header::Counts;
@@ -87,8 +88,8 @@ fn tell(
     Listed::Good(n)
 }
 
-// A job in which nothing is refused.
-fn good(file: &[u8], c: Counts, a: usize, xs: &[u8], tapes: &[u8], room: &mut [u8]) -> Listed
+// Behind all checks: the run, and its text. What is behind 1 to 6 asks it.
+pub fn good(file: &[u8], c: Counts, a: usize, xs: &[u8], tapes: &[u8], room: &mut [u8]) -> Listed
     requires { ⌜ Fit (now file) c a (now xs) (now tapes) ⌝ }
     requires { ⌜ 2624 ≤ length (now room) ⌝ }
     ensures { λ r. ⌜ listed-after r (now (room .exit)) ≡ says-good (now (file .entry)) (now (xs .entry)) (now (tapes .entry)) ⌝ }
@@ -121,7 +122,22 @@ fn refuse_header(room: &mut [u8], h: Header) -> Listed
     }
 }
 
-// A job's three parts: checks 1 to 8, then the text.
+// Behind checks 1 to 6, on the counts that they gave: A is counted, 7 and 8 are made, then the text. What lists a job's parts asks it.
+pub fn list_opened(file: &[u8], c: Counts, xs: &[u8], tapes: &[u8], room: &mut [u8]) -> Listed
+    requires { ⌜ Checked (now file) c ⌝ }
+    requires { ⌜ 2624 ≤ length (now room) ⌝ }
+    ensures { λ r. ⌜ listed-after r (now (room .exit)) ≡ says (now (file .entry)) (now (xs .entry)) (now (tapes .entry)) ⌝ }
+    ensures { λ r. ⌜ Rest r (now (room .entry)) (now (room .exit)) ⌝ }
+{
+    let a = tally::count_ands(file, c);
+    let f = given::slices_fault(file, c, a, xs, tapes);
+    if f.number != 0 {
+        return refuse(room, f.number, f.place);
+    }
+    good(file, c, a, xs, tapes, room)
+}
+
+// A job's three parts: 1 to 6, then what is behind them.
 fn list(file: &[u8], xs: &[u8], tapes: &[u8], room: &mut [u8]) -> Listed
     requires { ⌜ 2624 ≤ length (now room) ⌝ }
     ensures { λ r. ⌜ listed-after r (now (room .exit)) ≡ says (now (file .entry)) (now (xs .entry)) (now (tapes .entry)) ⌝ }
@@ -131,12 +147,7 @@ fn list(file: &[u8], xs: &[u8], tapes: &[u8], room: &mut [u8]) -> Listed
     let Header::Good(c) = h else {
         return refuse_header(room, h);
     };
-    let a = tally::count_ands(file, c);
-    let f = given::slices_fault(file, c, a, xs, tapes);
-    if f.number != 0 {
-        return refuse(room, f.number, f.place);
-    }
-    good(file, c, a, xs, tapes, room)
+    list_opened(file, c, xs, tapes, room)
 }
 
 // A job by its offsets: "the parts run each to the next and the last to the end".

@@ -93,7 +93,8 @@ fn gates_pass(file: &[u8], c: Counts, values: &mut [u8])
     }
 }
 
-// The values of all wires of a checked circuit, in a buffer, or a part of one, of W bytes. What stood there does not matter.
+// Behind all checks: the values of all wires, in a buffer, or a part of one, of W bytes. What stood there does not matter. What is behind 1 to 6
+// asks it, and re-taping, for both its sets of inputs.
 pub fn values_pass(file: &[u8], c: Counts, xs: &[u8], values: &mut [u8])
     requires { ⌜ Checked (now file) c × (length (now xs) ≡ c .inputs) ⌝ }
     requires { ⌜ length (now values) ≡ c .inputs + c .gates ⌝ }
@@ -101,6 +102,23 @@ pub fn values_pass(file: &[u8], c: Counts, xs: &[u8], values: &mut [u8])
 {
     inputs_pass(xs, values);
     gates_pass(file, c, values);
+}
+
+// Behind checks 1 to 6, on the counts that they gave: 7 and 10, then the values. The public call asks it, and any other form of it that has its
+// circuit checked first.
+pub fn plain_opened(file: &[u8], c: Counts, inputs: &[u8], values: &mut [u8]) -> Done
+    requires { ⌜ Checked (now file) c ⌝ }
+    ensures { λ r. ⌜ done-after r (now (values .exit) ∷ []) ≡ does (Plain (now (file .entry)) (now (inputs .entry)) (now (values .entry))) ⌝ }
+{
+    let x = slices::bits_fault(inputs, c.inputs);
+    if x <= c.inputs {
+        return Done::Refused(7, x);
+    }
+    if values.len() != c.inputs + c.gates {
+        return Done::Refused(10, 0);
+    }
+    values_pass(file, c, inputs, values);
+    Done::Good
 }
 
 // PUBLIC. The plain values of all wires, whatever is given, in a lent buffer of W bytes; a refusal leaves it as it was.
@@ -111,13 +129,5 @@ pub fn plain_values(file: &[u8], inputs: &[u8], values: &mut [u8]) -> Done
     let Header::Good(c) = h else {
         return checks::refused(h);
     };
-    let x = slices::bits_fault(inputs, c.inputs);
-    if x <= c.inputs {
-        return Done::Refused(7, x);
-    }
-    if values.len() != c.inputs + c.gates {
-        return Done::Refused(10, 0);
-    }
-    values_pass(file, c, inputs, values);
-    Done::Good
+    plain_opened(file, c, inputs, values)
 }

@@ -29,7 +29,8 @@ use Rattle.sharing.proofs.StoreLaws.{side-held}
 use Rattle.sharing.proofs.TapeLaws.{Sized, tapes-length, cut-sized, join-cut, read-tape}
 use Rattle.scope.specs.File.{site-of, circuit}
 use Rattle.scope.specs.Checks.{tapes-want}
-use Rattle.scope.specs.Calls.{at-wire, both-plain, work-room}
+use Rattle.scope.specs.Calls.{at-wire, work-room-of}
+use Rattle.scope.specs.AtBits.{both-plain, work-room}
 use Rattle.scope.proofs.Limits.{ands-most}
 use Rattle.scope.proofs.RunCall.{bit-draws}
 use Rattle.header.specs.declared.Counts.{Counts}
@@ -152,7 +153,7 @@ module _ (s : Site) (C : Circuit) (xs ys t : List ℕ) (h : length t ≡ tapes-s
 
 pub room-is : (C : Circuit) (x t y : List ℕ) (site : ℕ) (room : List ℕ)
     → room ≡ both-plain C x y ++ side (λ (w : Wire). of w (site-of site)) (after bits C (at-wire x) (read C t) no-errors (C .gates)) → room ≡ work-room C x t y site
-unfolding work-room
+unfolding work-room-of
 room-is C x t y site room e = e
 
 -- ---- the pass, over parts of the slice that stand at these places

@@ -8,7 +8,8 @@ use lib.Seq.{take-at, drop-at, drop-drop}
 use Rattle.sharing.specs.Store.{fill}
 use Rattle.scope.specs.File.{circuit}
 use Rattle.scope.specs.Plain.{plain}
-use Rattle.scope.specs.Calls.{both-plain}
+use Rattle.scope.specs.Calls.{both-plain-of}
+use Rattle.scope.specs.AtBits.{both-plain}
 use Rattle.scope.proofs.PlainLaws.{plain-length}
 use Rattle.header.specs.declared.Counts.{Counts}
 use Rattle.header.specs.Opened.{Opened}
@@ -22,7 +23,7 @@ module _ (f : List ℕ) (c : Counts) (op : Opened f c) (xs ys room v1 v2 : List 
   r = take 0 room ++ (v1 ++ drop (n - 0) (drop 0 room))
 
   pub values-in : take n r ++ (v2 ++ drop (2 * n - n) (drop n r)) ≡ fill room (both-plain (circuit f) xs ys)
-  unfolding fill both-plain
+  unfolding fill both-plain-of
   values-in =
       let C = circuit f in
       let i = op .ins-are in let g = op .gates-are in let px = plain-length C xs in let py = plain-length C ys in

@@ -1,10 +1,13 @@
--- What re-taping is given, with the lengths of its buffers. No public contract cites it.
-use mathlib.Core.List.{List, [], _∷_}
+-- What re-taping checks behind its circuit and in front of 13, by the lengths of its buffers. No public contract cites it.
+use mathlib.Core.List.{List, [], _∷_, _++_}
 use Prim.Native.Nat.{ℕ}
-use Rattle.scope.specs.File.{circuit}
-use Rattle.scope.specs.Checks.{whole, Given}
+use Rattle.scope.specs.File.{inputs-of, circuit}
+use Rattle.scope.specs.Checks.{Refusal, refusal, row-site, row-buffer}
+use Rattle.scope.specs.AtBits.{bits-row}
 use Rattle.scope.specs.Calls.{retape-wants}
+use Rattle.given.specs.Mirror.{slices-checks}
 
-abbrev pub retape-given : List ℕ → List ℕ → List ℕ → List ℕ → ℕ → ℕ → ℕ → Given
-retape-given f x t y s n r =
-    record { file = f; inputs = x; tapes = t; line = []; second = y; site = s; asked = whole; sizes = n ∷ r ∷ []; wanted = retape-wants (circuit f); job = [] }
+abbrev pub retape-checks : List ℕ → List ℕ → List ℕ → List ℕ → ℕ → ℕ → ℕ → List Refusal
+retape-checks f x t y s n r =
+    slices-checks f x t
+    ++ (refusal 11 (row-site s) ∷ refusal 10 (row-buffer (n ∷ r ∷ []) (retape-wants (circuit f))) ∷ refusal 12 (bits-row y (inputs-of f)) ∷ [])

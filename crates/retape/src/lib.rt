@@ -2,14 +2,16 @@
 ghost use mathlib.Core.Path.{_≡_};
 ghost use mathlib.Core.List.{[], _∷_};
 ghost use Prim.Native.Nat.{_≤_};
+ghost use lib.ListN.{length};
 ghost use Rattle.sharing.specs.Circuit.{ands};
 ghost use Rattle.scope.specs.File.{circuit};
-ghost use Rattle.scope.specs.Checks.{verdict};
+ghost use Rattle.scope.specs.Checks.{accepted, verdict};
 ghost use Rattle.scope.specs.Calls.{Retape, does};
 ghost use Rattle.header.specs.Opened.{Opened};
+ghost use Rattle.circuit.specs.Checked.{Checked};
 ghost use Rattle.checks.specs.Answers.{done-after};
 ghost use Rattle.given.specs.Mirror.{found};
-ghost use Rattle.retape.specs.Mirror.{retape-given};
+ghost use Rattle.retape.specs.Mirror.{retape-checks};
 use checks::Done;
 use given::Fault;
 use header::Counts;
@@ -28,7 +30,7 @@ fn given_fault(
     room: usize,
 ) -> Fault
     requires { ⌜ Opened (now file) c × (a ≡ ands (circuit (now file) .gate) (c .gates)) × (a ≤ c .gates) ⌝ }
-    ensures { λ r. ⌜ found r ≡ verdict (retape-given (now (file .entry)) (now (xs .entry)) (now (tapes .entry)) (now (ys .entry)) site fresh room) (7 ∷ 8 ∷ 11 ∷ 10 ∷ 12 ∷ []) ⌝ }
+    ensures { λ r. ⌜ found r ≡ verdict (retape-checks (now (file .entry)) (now (xs .entry)) (now (tapes .entry)) (now (ys .entry)) site fresh room) ⌝ }
 {
     let f = given::slices_fault(file, c, a, xs, tapes);
     if f.number != 0 {
@@ -62,6 +64,65 @@ fn given_fault(
     }
 }
 
+// Behind 12: both sets of plain values, 13 on them, then the new tapes. It makes the last check itself, since what 13 looks at stands in the
+// work room. What is behind 1 to 6 asks it.
+pub fn retape_given(
+    file: &[u8],
+    c: Counts,
+    a: usize,
+    inputs: &[u8],
+    tapes: &[u8],
+    second: &[u8],
+    site: usize,
+    fresh: &mut [u8],
+    room: &mut [u8],
+) -> Done
+    requires { ⌜ Checked (now file) c × (a ≡ ands (circuit (now file) .gate) (c .gates)) × (a ≤ c .gates) ⌝ }
+    requires { ⌜ verdict (retape-checks (now file) (now inputs) (now tapes) (now second) site (length (now fresh)) (length (now room))) ≡ accepted ⌝ }
+    ensures { λ r. ⌜ done-after r (now (fresh .exit) ∷ now (room .exit) ∷ []) ≡ does (Retape (now (file .entry)) (now (inputs .entry)) (now (tapes .entry)) (now (second .entry)) site (now (fresh .entry)) (now (room .entry))) ⌝ }
+{
+    renew::both_values(file, c, inputs, second, room);
+    let d = differs::differ(file, c, site, inputs, second, room);
+    if d < c.inputs + c.outputs {
+        return Done::Refused(13, d);
+    }
+    renew::renew(file, c, a, site, inputs, second, tapes, fresh, room);
+    Done::Good
+}
+
+// Behind checks 1 to 6, on the counts that they gave: A is counted, 7, 8, 11, 10 and 12 are made, then what is behind 12. The public re-taping
+// asks it, and any other form of one that has its circuit checked first.
+pub fn retape_opened(
+    file: &[u8],
+    c: Counts,
+    inputs: &[u8],
+    tapes: &[u8],
+    second: &[u8],
+    site: usize,
+    fresh: &mut [u8],
+    room: &mut [u8],
+) -> Done
+    requires { ⌜ Checked (now file) c ⌝ }
+    ensures { λ r. ⌜ done-after r (now (fresh .exit) ∷ now (room .exit) ∷ []) ≡ does (Retape (now (file .entry)) (now (inputs .entry)) (now (tapes .entry)) (now (second .entry)) site (now (fresh .entry)) (now (room .entry))) ⌝ }
+{
+    let a = tally::count_ands(file, c);
+    let f = given_fault(
+        file,
+        c,
+        a,
+        inputs,
+        tapes,
+        second,
+        site,
+        fresh.len(),
+        room.len(),
+    );
+    if f.number != 0 {
+        return Done::Refused(f.number, f.place);
+    }
+    retape_given(file, c, a, inputs, tapes, second, site, fresh, room)
+}
+
 // PUBLIC. Re-taping, whatever is given. New tapes and work room are lent; a refusal leaves both as they were, but 13 leaves both sets of
 // plain values in the first 2W bytes of the work room.
 pub fn retape(
@@ -79,26 +140,5 @@ pub fn retape(
     let Header::Good(c) = h else {
         return checks::refused(h);
     };
-    let a = tally::count_ands(file, c);
-    let f = given_fault(
-        file,
-        c,
-        a,
-        inputs,
-        tapes,
-        second,
-        site,
-        fresh.len(),
-        room.len(),
-    );
-    if f.number != 0 {
-        return Done::Refused(f.number, f.place);
-    }
-    renew::both_values(file, c, inputs, second, room);
-    let d = differs::differ(file, c, site, inputs, second, room);
-    if d < c.inputs + c.outputs {
-        return Done::Refused(13, d);
-    }
-    renew::renew(file, c, a, site, inputs, second, tapes, fresh, room);
-    Done::Good
+    retape_opened(file, c, inputs, tapes, second, site, fresh, room)
 }

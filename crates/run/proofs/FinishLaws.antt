@@ -25,7 +25,8 @@ use Rattle.sharing.proofs.StoreLaws.{fill-all}
 use Rattle.sharing.proofs.RunLaws.{quiet-made, stop-le, outputs-length}
 use Rattle.scope.specs.File.{circuit}
 use Rattle.scope.specs.Answer.{good, abort, After}
-use Rattle.scope.specs.Calls.{at-wire, ran}
+use Rattle.scope.specs.Calls.{at-wire}
+use Rattle.scope.specs.AtBits.{ran}
 use Rattle.scope.proofs.RunCall.{ran-quiet, ran-stopped}
 use Rattle.header.specs.declared.Counts.{Counts}
 use Rattle.engine.specs.Mirror.{objects-on, opens-on, hands-on}
@@ -78,14 +79,11 @@ module _ (f xs tapes line tr outs s t : List ℕ) (x p l o r q : ℕ) (d : Ready
   abbrev at : ℕ
   at = 4 * C .ins + 12 * all-ands C
 
-  below : (k : ℕ) → k < C .outs → C .out k < n
-  below k h = d .checked .outputs k h
-
   stop-is : first (λ (j : ℕ). not (eqb (objects-on f line s n at j) 0)) (C .outs) ≡ stop bits C X T E
   unfolding stop
   stop-is =
       first-ext (λ (j : ℕ). not (eqb (objects-on f line s n at j) 0)) (λ (j : ℕ). not (eqb (objects bits C X T E j) 0)) (C .outs)
-      (λ k h. ap (λ (m : ℕ). not (eqb m 0)) (objects-law f line X T n refl s es k (below k h)))
+      (λ k h. ap (λ (m : ℕ). not (eqb m 0)) (objects-law f line X T n refl s es k))
 
   -- the transcript through the last opening that is made
   made-is : (k : ℕ) → k ≡ stop bits C X T E → opens-on f line s n at t (min (suc k) (C .outs)) ≡ fill tr (transcript bits C X T E)
@@ -93,7 +91,7 @@ module _ (f xs tapes line tr outs s t : List ℕ) (x p l o r q : ℕ) (d : Ready
   made-is k e =
       let a = d .lr in
       ap (λ (z : List ℕ). opens-on f line s n at z (min (suc k) (C .outs))) et
-      ∙ opens-law f line X T n refl s es tr (min (suc k) (C .outs)) (λ j h. below j (omega arith)) (omega arith)
+      ∙ opens-law f line X T n refl s es tr (min (suc k) (C .outs)) (omega arith)
       ∙ ap (λ (z : ℕ). fill tr (opens-delivered bits C X T E (min (suc z) (C .outs)))) e
 
   module _ (k m : ℕ) (t′ : List ℕ) (j : Judged f line s t (counts-of f) at k m t′) where
@@ -107,7 +105,7 @@ module _ (f xs tapes line tr outs s t : List ℕ) (x p l o r q : ℕ) (d : Ready
     unfolding run-answer
     stopped-at h =
         let M : m ≡ objects bits C X T E (stop bits C X T E)
-        = j .1 .0 ∙ ap (λ (b : Bool). cond b (objects-on f line s n at k) 0) (lt-ltb k (C .outs) h) ∙ objects-law f line X T n refl s es k (below k h) ∙ ap (objects bits C X T E) at-stop in
+        = j .1 .0 ∙ ap (λ (b : Bool). cond b (objects-on f line s n at k) 0) (lt-ltb k (C .outs) h) ∙ objects-law f line X T n refl s es k ∙ ap (objects bits C X T E) at-stop in
         let K = at-stop in let R = told in
         (λ i. record { answer = abort (K i) (M i); returned = []; lent = outs ∷ R i ∷ es i ∷ [] })
         ∙ sym (ran-stopped C X T E outs tr (subst (λ (z : ℕ). z < C .outs) K h))
@@ -122,7 +120,7 @@ module _ (f xs tapes line tr outs s t : List ℕ) (x p l o r q : ℕ) (d : Ready
         let a = d .lo in
         let H : o′ ≡ outputs bits C X T E (C .outs)
         = e ∙ ap (λ (z : List ℕ). hands-on f z s n at outs (C .outs)) R
-        ∙ hands-law f line X T n refl s es tr (made bits C X T E) outs (C .outs) (omega arith) below (omega arith)
+        ∙ hands-law f line X T n refl s es tr (made bits C X T E) outs (C .outs) (omega arith) (omega arith)
         ∙ fill-all outs (outputs bits C X T E (C .outs)) (outputs-length bits C X T E (C .outs) ∙ omega arith) in
         (λ i. record { answer = good []; returned = []; lent = H i ∷ R i ∷ es i ∷ [] }) ∙ sym (ran-quiet C X T E outs tr Q)
 

@@ -5,64 +5,63 @@
 -- Assumes nothing.
 use mathlib.Core.Path.{_≡_, refl, sym, ap, ap₂, _∙_}
 use mathlib.Core.List.{List, [], _∷_}
+use native.Mathlib.Omega.{arith}
 use Prim.Native.Nat.{ℕ, _+_, _*_}
 use lib.ListN.{length}
 use Rattle.sharing.specs.Tapes.{read}
 use Rattle.sharing.specs.Line.{errors}
 use Rattle.scope.specs.File.{circuit}
 use Rattle.scope.specs.Answer.{Answer, good, abort, refused}
-use Rattle.scope.specs.Checks.{Given, refuses, verdict}
-use Rattle.scope.specs.Refusal.{position, stands-in, those-of}
-use Rattle.scope.specs.Calls.{Call, Check, Run, given-of, concerns, order, lent-before, returned-refused, answers, at-wire, ran, does, Accepts}
+use Rattle.scope.specs.Checks.{Refusal, accepted, refuses, verdict}
+use Rattle.scope.specs.Calls.{Call, Check, Run, RunOf, answers, at-wire, does, Accepts}
+use Rattle.scope.specs.AtBits.{ran}
+use Rattle.scope.proofs.Refusals.{Without}
 use Rattle.scope.proofs.CallLaws.{verdict-accepts}
 use Rattle.scope.proofs.Accepted.{RunOk, run-ok}
 use Rattle.scope.proofs.RunCall.{run-does}
 use Rattle.header.specs.declared.Counts.{Counts}
 use Rattle.header.specs.declared.Header.{Header}
-use Rattle.header.specs.declared.Header.the-variants.{Good as HeaderGood, Refused as HeaderRefused}
+use Rattle.header.specs.declared.Header.the-variants.{Refused as HeaderRefused}
 use Rattle.header.specs.Answers.{header-answer}
 use Rattle.header.proofs.OpenLaws.{one-result}
 use Rattle.circuit.specs.Checked.{Checked}
-use Rattle.checks.proofs.FrontLaws.{Front, circuit-refused, given-refused}
+use Rattle.checks.proofs.FrontLaws.{Front, circuit-refused, given-refused, given-passed}
 use Rattle.slices.proofs.ChainLaws.{nothing}
 use Rattle.run.specs.declared.Ran.{Ran}
 use Rattle.run.specs.declared.Ran.the-variants.{Good, Abort, Refused}
 use Rattle.run.specs.Answers.{run-answer, run-after}
-use Rattle.given.specs.Mirror.{run-given}
+use Rattle.given.specs.Mirror.{run-checks}
 use Rattle.run.specs.Mirror.{refusal-of, Ready}
 
 module _ (f x t l outs tr st : List ℕ) where
   abbrev the-run : Call
   the-run = Run f x t l outs tr st
 
-  abbrev g : Given
-  g = run-given f x t l (length outs) (length tr) (length st)
+  abbrev Four : List Refusal
+  Four = run-checks f x t l (length outs) (length tr) (length st)
 
-  abbrev Four : List ℕ
-  Four = 7 ∷ 8 ∷ 9 ∷ 10 ∷ []
+  pub front : Front the-run f Four [] (outs ∷ tr ∷ st ∷ [])
+  unfolding Without RunOf
+  front = record { goes = refl; leaves = λ n k. refl; returns = λ n p. refl; no-13 = omega arith }
 
-  pub front : Front the-run g Four [] (outs ∷ tr ∷ st ∷ [])
-  unfolding given-of order concerns those-of stands-in lent-before returned-refused position
-  front = record { gives = refl; asks = refl; goes = refl; lends = refl; returns = λ n p. refl; no-13 = refl }
+  pub run-circuit : (h : Header) → answers (header-answer h) ≡ does (Check f) → (n p : ℕ) (r : Ran) → h ≡ HeaderRefused n p → r ≡ refusal-of h
+      → run-after r outs tr st ≡ does the-run
+  unfolding run-answer
+  run-circuit h e n p r q d = ap (λ (z : Ran). run-after z outs tr st) (d ∙ ap refusal-of q) ∙ circuit-refused the-run f Four [] _ front h e n p q
 
-  module _ (h : Header) (e : answers (header-answer h) ≡ does (Check f)) where
-    pub run-circuit : (n p : ℕ) (r : Ran) → h ≡ HeaderRefused n p → r ≡ refusal-of h → run-after r outs tr st ≡ does the-run
-    unfolding run-answer
-    run-circuit n p r q d = ap (λ (z : Ran). run-after z outs tr st) (d ∙ ap refusal-of q) ∙ circuit-refused the-run g Four [] _ front h e n p q
+  pub run-given-no : Accepts (Check f) → (n p : ℕ) → verdict Four ≡ refuses n p → run-after (Refused n p) outs tr st ≡ does the-run
+  unfolding run-answer
+  run-given-no = given-refused the-run f Four [] _ front
 
-    pub run-given-no : (c : Counts) → h ≡ HeaderGood c → (n p : ℕ) → verdict g Four ≡ refuses n p → run-after (Refused n p) outs tr st ≡ does the-run
-    unfolding run-answer
-    run-given-no = given-refused the-run g Four [] _ front h e
-
-  module _ (passed : verdict (given-of the-run) (order the-run) ≡ verdict g []) where
+  module _ (c : Counts) (k : Checked f c) (clear : verdict Four ≡ accepted) where
     accepts : Accepts the-run
-    accepts = verdict-accepts the-run (passed ∙ sym (nothing g))
+    accepts = verdict-accepts the-run (given-passed the-run f Four [] _ front (k .passes) clear ∙ sym nothing)
 
     ok : RunOk f x t l outs tr st
     ok = run-ok f x t l outs tr st accepts
 
-    pub ready : (c : Counts) → Checked f c → Ready f c (length x) (length t) (length l) (length outs) (length tr) (length st)
-    ready c k =
+    pub ready : Ready f c (length x) (length t) (length l) (length outs) (length tr) (length st)
+    ready =
         let o = k .opened in
         record {
           checked = k;

@@ -10,7 +10,9 @@ ghost use Rattle.sharing.specs.Line.{errors};
 ghost use Rattle.sharing.specs.Store.{fill};
 ghost use Rattle.sharing.specs.Store.{store as storing};
 ghost use Rattle.scope.specs.File.{circuit};
-ghost use Rattle.scope.specs.Calls.{at-wire, ran, Run, does};
+ghost use Rattle.scope.specs.Calls.{at-wire, Run, does};
+ghost use Rattle.scope.specs.AtBits.{ran};
+ghost use Rattle.circuit.specs.Checked.{Checked};
 ghost use Rattle.link.specs.Loops.{in-place};
 ghost use Rattle.run.specs.Answers.{run-after};
 ghost use Rattle.run.specs.Mirror.{refusal-of, Ready};
@@ -48,7 +50,8 @@ fn shares(
     z.at
 }
 
-// The run of a circuit and slices that were checked: shares, openings judged, outputs handed over only after the last opening is known to be good.
+// Behind all checks: shares, openings judged, outputs handed over only after the last opening is known to be good. What is behind 1 to 6 asks
+// it, and the listing, whose rooms need no check.
 pub fn run_checked(
     file: &[u8],
     c: Counts,
@@ -85,6 +88,39 @@ fn refused(h: Header) -> Ran
     }
 }
 
+// Behind checks 1 to 6, on the counts that they gave: A is counted, 7 to 10 are made, then the run. The public run asks it, and any other form
+// of a run that has its circuit checked first.
+pub fn run_opened(
+    file: &[u8],
+    c: Counts,
+    inputs: &[u8],
+    tapes: &[u8],
+    line: &[u8],
+    outputs: &mut [u8],
+    transcript: &mut [u8],
+    store: &mut [u8],
+) -> Ran
+    requires { ⌜ Checked (now file) c ⌝ }
+    ensures { λ r. ⌜ run-after r (now (outputs .exit)) (now (transcript .exit)) (now (store .exit)) ≡ does (Run (now (file .entry)) (now (inputs .entry)) (now (tapes .entry)) (now (line .entry)) (now (outputs .entry)) (now (transcript .entry)) (now (store .entry))) ⌝ }
+{
+    let a = tally::count_ands(file, c);
+    let f = given::given_fault(
+        file,
+        c,
+        a,
+        inputs,
+        tapes,
+        line,
+        outputs.len(),
+        transcript.len(),
+        store.len(),
+    );
+    if f.number != 0 {
+        return Ran::Refused(f.number, f.place);
+    }
+    run_checked(file, c, a, inputs, tapes, line, outputs, transcript, store)
+}
+
 // PUBLIC. The run of the three sites on a line, whatever is given. Outputs, transcript and store are lent; a refusal leaves all three as they
 // were, an abort the outputs and the transcript behind that opening's six bits.
 pub fn run(
@@ -102,20 +138,5 @@ pub fn run(
     let Header::Good(c) = h else {
         return refused(h);
     };
-    let a = tally::count_ands(file, c);
-    let f = given::given_fault(
-        file,
-        c,
-        a,
-        inputs,
-        tapes,
-        line,
-        outputs.len(),
-        transcript.len(),
-        store.len(),
-    );
-    if f.number != 0 {
-        return Ran::Refused(f.number, f.place);
-    }
-    run_checked(file, c, a, inputs, tapes, line, outputs, transcript, store)
+    run_opened(file, c, inputs, tapes, line, outputs, transcript, store)
 }

@@ -8,32 +8,45 @@
 --     refused-13, unkept-refused    re-taping is refused with 13 exactly where own inputs or opened bits are not kept
 --     ListingOk, listing-ok         a listing's;  check-sound: a checked file's
 -- Assumes nothing.
-use mathlib.Core.Path.{_≡_, _∙_}
+use mathlib.Core.Path.{_≡_, refl, sym, ap, _∙_, subst}
 use mathlib.Core.Bool.{not}
-use mathlib.Core.List.{List, [], _∷_}
+use mathlib.Core.List.{List, [], _∷_, _++_, map}
 use Prim.Native.Nat.{ℕ, zero, suc, _+_, _*_, _<_}
 use native.Mathlib.Omega.{arith}
 use lib.ListN.{length, getD}
-use lib.Dec.{lit<}
 use Rattle.sharing.specs.Circuit.{wires, all-ands, all-owned}
 use Rattle.sharing.proofs.FirstLaws.{Clear}
 use Rattle.scope.specs.File.{inputs-of, site-of, circuit}
 use Rattle.scope.specs.Answer.{refused}
-use Rattle.scope.specs.Checks.{whole, Holds, tested, one-to-three, tapes-want, line-want, row, refusal-table, fault}
-use Rattle.scope.specs.Refusal.{position, FirstRefusal, stands-in, those-of}
-use Rattle.scope.specs.Calls.{Call, Check, Run, View, Retape, Listing, given, given-of, concerns, order, does, Accepts, run-wants, view-wants, retape-wants, job-file, job-inputs, job-tapes}
-use Rattle.scope.proofs.Refusals.{Clears, Passes, clears-none, verdict-first, first-passes, verdict-skips, verdict-last}
-use Rattle.scope.specs.Statements.{Bits, Keeps}
-use Rattle.scope.proofs.RowLaws.{bits-clear, clear-bits, sizes-clear, clear-sizes, keeps-clear, clear-keeps}
+use Rattle.scope.specs.Checks.{Refusal, refusal, tested, one-to-three, row-short, row-large, row-field, row-owner, row-gate-of, row-output, numbers-row, row-site, row-buffer, row-differs-of, file-checks, tapes-want, line-want, fault, verdict}
+use Rattle.scope.specs.Calls.{Call, CheckOf, Run, RunOf, View, ViewOf, RetapeOf, Listing, does, Accepts, run-wants, view-wants, retape-wants, job-file, job-inputs, job-tapes}
+use Rattle.scope.proofs.Refusals.{Clears, Passes, Without, verdict-after, last-refuses, verdict-skips, verdict-last}
+use Rattle.scope.specs.Statements.{circuit-with, Family, bit-family, Fitting, Numbers, Keeps}
+use Rattle.scope.proofs.RowLaws.{numbers-clear, clear-numbers, sizes-clear, clear-sizes, keeps-clear, clear-keeps}
+use Rattle.scope.proofs.FamilyLaws.{Lawful, bit-lawful}
 use Rattle.scope.proofs.CallLaws.{accepts-passes, passes-accepts, refused-verdict, verdict-refused}
 
-pub record Sound (f : List ℕ) : Type 0 where
-  pub c1 : Clears (given-of (Check f)) 1
-  pub c2 : Clears (given-of (Check f)) 2
-  pub c3 : Clears (given-of (Check f)) 3
-  pub c4 : Clears (given-of (Check f)) 4
-  pub c5 : Clears (given-of (Check f)) 5
-  pub c6 : Clears (given-of (Check f)) 6
+-- an order in two parts
+split : (cs ds : List Refusal) → Passes (cs ++ ds) → Passes cs × Passes ds
+unfolding Passes
+split [] ds h = (tt, h)
+split (c ∷ cs) ds h = let r = split cs ds (h .1) in ((h .0, r .0), r .1)
+
+joined : (cs ds : List Refusal) → Passes cs → Passes ds → Passes (cs ++ ds)
+unfolding Passes
+joined [] ds a b = b
+joined (c ∷ cs) ds a b = (a .0, joined cs ds (a .1) b)
+
+pub record SoundOf (F : Family) (f : List ℕ) : Type 0 where
+  pub c1 : Clears (row-short f)
+  pub c2 : Clears (row-large f)
+  pub c3 : Clears (row-field f)
+  pub c4 : Clears (row-owner f)
+  pub c5 : Clears (row-gate-of F f)
+  pub c6 : Clears (row-output f)
+
+abbrev pub Sound : List ℕ → Type 0
+Sound = SoundOf bit-family
 
 abbrev pub SiteOk : ℕ → Type 0
 SiteOk s = Clear (tested ((0, not (one-to-three s)) ∷ [])) 1
@@ -47,188 +60,196 @@ three-sizes : (a b c p q r : ℕ) → a ≡ p → b ≡ q → c ≡ r → (k : �
 three-sizes a b c p q r e h g zero l = e
 three-sizes a b c p q r e h g (suc k) l = two-sizes b c q r h g k (omega arith)
 
--- 1 to 8 pass; ns are the call's further checks
-front : (f x t l y : List ℕ) (s : ℕ) (bufs : List (List ℕ)) (wants j ns : List ℕ) → let g = given whole f x t l y s bufs wants j in
-    Sound f → Bits x (inputs-of f) → Bits t (tapes-want (circuit f)) → Passes g ns → Passes g (1 ∷ 2 ∷ 3 ∷ 4 ∷ 5 ∷ 6 ∷ 7 ∷ 8 ∷ ns)
-unfolding Passes given-of row refusal-table
-front f x t l y s bufs wants j ns k bx bt h =
-    (k .c1, (k .c2, (k .c3, (k .c4, (k .c5, (k .c6, (clear-bits x (inputs-of f) bx, (clear-bits t (tapes-want (circuit f)) bt, h))))))))
+-- 1 to 8 pass, in front of a call's further checks
+front : {A : Type 0} (F : Family) (L : Lawful F) (f x t : List ℕ) → SoundOf F f → Numbers F x (inputs-of f) → Numbers F t (tapes-want (circuit-with F f)) → A
+    → Clears (row-short f) × (Clears (row-large f) × (Clears (row-field f) × (Clears (row-owner f) × (Clears (row-gate-of F f) × (Clears (row-output f)
+    × (Clears (numbers-row F x (inputs-of f)) × (Clears (numbers-row F t (tapes-want (circuit-with F f))) × A)))))))
+front F L f x t k bx bt h =
+    (k .c1, (k .c2, (k .c3, (k .c4, (k .c5, (k .c6, (clear-numbers F L x (inputs-of f) bx, (clear-numbers F L t (tapes-want (circuit-with F f)) bt, h))))))))
 
-module _ (f x t l outs tr st : List ℕ) where
-  pub record RunOk : Type 0 where
-    pub sound : Sound f
-    pub in-x : Bits x (inputs-of f)
-    pub in-t : Bits t (tapes-want (circuit f))
-    pub in-l : Bits l (line-want (circuit f))
-    pub outs-long : length outs ≡ 3 * circuit f .outs
-    pub tr-long : length tr ≡ line-want (circuit f)
-    pub st-long : length st ≡ 6 * wires (circuit f)
+module _ (F : Family) (f x t l outs tr st : List ℕ) where
+  pub record RunOkOf : Type 0 where
+    pub sound : SoundOf F f
+    pub in-x : Numbers F x (inputs-of f)
+    pub in-t : Numbers F t (tapes-want (circuit-with F f))
+    pub in-l : Numbers F l (line-want (circuit-with F f))
+    pub outs-long : length outs ≡ 3 * circuit-with F f .outs
+    pub tr-long : length tr ≡ line-want (circuit-with F f)
+    pub st-long : length st ≡ 6 * wires (circuit-with F f)
 
-  pub run-ok : Accepts (Run f x t l outs tr st) → RunOk
-  unfolding Passes order concerns those-of stands-in given-of row refusal-table
-  run-ok a =
-      let h = accepts-passes (Run f x t l outs tr st) a in
-      let sizes = sizes-clear (length outs ∷ length tr ∷ length st ∷ []) (run-wants (circuit f)) 3 (h .1 .1 .1 .1 .1 .1 .1 .1 .1 .0) in
+module _ (F : Family) (L : Lawful F) (f x t l outs tr st : List ℕ) where
+  pub run-ok-of : Fitting F x → Fitting F t → Fitting F l → Accepts (RunOf F f x t l outs tr st) → RunOkOf F f x t l outs tr st
+  unfolding Passes RunOf
+  run-ok-of fx ft fl a =
+      let h = accepts-passes (RunOf F f x t l outs tr st) a in
+      let sizes = sizes-clear (length outs ∷ length tr ∷ length st ∷ []) (run-wants (circuit-with F f)) 3 (h .1 .1 .1 .1 .1 .1 .1 .1 .1 .0) in
       record {
         sound = record { c1 = h .0; c2 = h .1 .0; c3 = h .1 .1 .0; c4 = h .1 .1 .1 .0; c5 = h .1 .1 .1 .1 .0; c6 = h .1 .1 .1 .1 .1 .0 };
-        in-x = bits-clear x (inputs-of f) (h .1 .1 .1 .1 .1 .1 .0);
-        in-t = bits-clear t (tapes-want (circuit f)) (h .1 .1 .1 .1 .1 .1 .1 .0);
-        in-l = bits-clear l (line-want (circuit f)) (h .1 .1 .1 .1 .1 .1 .1 .1 .0);
+        in-x = numbers-clear F L x (inputs-of f) fx (h .1 .1 .1 .1 .1 .1 .0);
+        in-t = numbers-clear F L t (tapes-want (circuit-with F f)) ft (h .1 .1 .1 .1 .1 .1 .1 .0);
+        in-l = numbers-clear F L l (line-want (circuit-with F f)) fl (h .1 .1 .1 .1 .1 .1 .1 .1 .0);
         outs-long = sizes 0 (omega arith);
         tr-long = sizes 1 (omega arith);
         st-long = sizes 2 (omega arith);
       }
 
-  pub ok-run : RunOk → Accepts (Run f x t l outs tr st)
-  unfolding Passes order concerns those-of stands-in given-of row refusal-table
+  pub ok-run : RunOkOf F f x t l outs tr st → Accepts (RunOf F f x t l outs tr st)
+  unfolding Passes RunOf
   ok-run k =
-      passes-accepts (Run f x t l outs tr st)
-      (front f x t l [] 0 (outs ∷ tr ∷ st ∷ []) (run-wants (circuit f)) [] (9 ∷ 10 ∷ []) (k .sound) (k .in-x) (k .in-t) (
-        clear-bits l (line-want (circuit f)) (k .in-l),
-        (clear-sizes (length outs ∷ length tr ∷ length st ∷ []) (run-wants (circuit f)) 3 (three-sizes _ _ _ _ _ _ (k .outs-long) (k .tr-long) (k .st-long)), tt),
-      ))
+      let sizes = clear-sizes (length outs ∷ length tr ∷ length st ∷ []) (run-wants (circuit-with F f)) 3 (three-sizes _ _ _ _ _ _ (k .outs-long) (k .tr-long) (k .st-long)) in
+      passes-accepts (RunOf F f x t l outs tr st) (front F L f x t (k .sound) (k .in-x) (k .in-t) (clear-numbers F L l (line-want (circuit-with F f)) (k .in-l), (sizes, tt)))
 
-module _ (f x t : List ℕ) (s : ℕ) (v st : List ℕ) where
-  pub record ViewOk : Type 0 where
-    pub sound : Sound f
-    pub in-x : Bits x (inputs-of f)
-    pub in-t : Bits t (tapes-want (circuit f))
+module _ (F : Family) (f x t : List ℕ) (s : ℕ) (v st : List ℕ) where
+  pub record ViewOkOf : Type 0 where
+    pub sound : SoundOf F f
+    pub in-x : Numbers F x (inputs-of f)
+    pub in-t : Numbers F t (tapes-want (circuit-with F f))
     pub site : SiteOk s
-    pub v-long : length v ≡ 2 * circuit f .ins + all-owned (circuit f) (site-of s) + 6 * all-ands (circuit f) + 3 * circuit f .outs
-    pub st-long : length st ≡ 6 * wires (circuit f)
+    pub v-long : length v ≡ 2 * circuit-with F f .ins + all-owned (circuit-with F f) (site-of s) + 6 * all-ands (circuit-with F f) + 3 * circuit-with F f .outs
+    pub st-long : length st ≡ 6 * wires (circuit-with F f)
 
-  pub view-ok : Accepts (View f x t s v st) → ViewOk
-  unfolding Passes order concerns those-of stands-in given-of row refusal-table
-  view-ok a =
-      let h = accepts-passes (View f x t s v st) a in
-      let sizes = sizes-clear (length v ∷ length st ∷ []) (view-wants (circuit f) s) 2 (h .1 .1 .1 .1 .1 .1 .1 .1 .1 .0) in
+module _ (F : Family) (L : Lawful F) (f x t : List ℕ) (s : ℕ) (v st : List ℕ) where
+  pub view-ok-of : Fitting F x → Fitting F t → Accepts (ViewOf F f x t s v st) → ViewOkOf F f x t s v st
+  unfolding Passes ViewOf
+  view-ok-of fx ft a =
+      let h = accepts-passes (ViewOf F f x t s v st) a in
+      let sizes = sizes-clear (length v ∷ length st ∷ []) (view-wants (circuit-with F f) s) 2 (h .1 .1 .1 .1 .1 .1 .1 .1 .1 .0) in
       record {
         sound = record { c1 = h .0; c2 = h .1 .0; c3 = h .1 .1 .0; c4 = h .1 .1 .1 .0; c5 = h .1 .1 .1 .1 .0; c6 = h .1 .1 .1 .1 .1 .0 };
-        in-x = bits-clear x (inputs-of f) (h .1 .1 .1 .1 .1 .1 .0);
-        in-t = bits-clear t (tapes-want (circuit f)) (h .1 .1 .1 .1 .1 .1 .1 .0);
+        in-x = numbers-clear F L x (inputs-of f) fx (h .1 .1 .1 .1 .1 .1 .0);
+        in-t = numbers-clear F L t (tapes-want (circuit-with F f)) ft (h .1 .1 .1 .1 .1 .1 .1 .0);
         site = h .1 .1 .1 .1 .1 .1 .1 .1 .0;
         v-long = sizes 0 (omega arith);
         st-long = sizes 1 (omega arith);
       }
 
-  pub ok-view : ViewOk → Accepts (View f x t s v st)
-  unfolding Passes order concerns those-of stands-in given-of row refusal-table
+  pub ok-view : ViewOkOf F f x t s v st → Accepts (ViewOf F f x t s v st)
+  unfolding Passes ViewOf
   ok-view k =
-      passes-accepts (View f x t s v st)
-      (front f x t [] [] s (v ∷ st ∷ []) (view-wants (circuit f) s) [] (11 ∷ 10 ∷ []) (k .sound) (k .in-x) (k .in-t) (
-        k .site,
-        (clear-sizes (length v ∷ length st ∷ []) (view-wants (circuit f) s) 2 (two-sizes _ _ _ _ (k .v-long) (k .st-long)), tt),
-      ))
+      let sizes = clear-sizes (length v ∷ length st ∷ []) (view-wants (circuit-with F f) s) 2 (two-sizes _ _ _ _ (k .v-long) (k .st-long)) in
+      passes-accepts (ViewOf F f x t s v st) (front F L f x t (k .sound) (k .in-x) (k .in-t) (k .site, (sizes, tt)))
 
-module _ (f x t y : List ℕ) (s : ℕ) (nt wr : List ℕ) where
+module _ (F : Family) (f x t y : List ℕ) (s : ℕ) (nt wr : List ℕ) where
   -- all but 13
   pub record RetapeGiven : Type 0 where
-    pub sound : Sound f
-    pub in-x : Bits x (inputs-of f)
-    pub in-t : Bits t (tapes-want (circuit f))
+    pub sound : SoundOf F f
+    pub in-x : Numbers F x (inputs-of f)
+    pub in-t : Numbers F t (tapes-want (circuit-with F f))
     pub site : SiteOk s
-    pub nt-long : length nt ≡ tapes-want (circuit f)
-    pub wr-long : length wr ≡ 4 * wires (circuit f)
-    pub in-y : Bits y (inputs-of f)
+    pub nt-long : length nt ≡ tapes-want (circuit-with F f)
+    pub wr-long : length wr ≡ 4 * wires (circuit-with F f)
+    pub in-y : Numbers F y (inputs-of f)
 
   pub record RetapeOk : Type 0 where
     pub given : RetapeGiven
-    pub keeps : Keeps (site-of s) (circuit f) x y
-
-  abbrev called : Call
-  called = Retape f x t y s nt wr
-
-  given-by : ((n : ℕ) → position (order called) n < 11 → Clears (given-of called) n) → RetapeGiven
-  unfolding order concerns those-of stands-in given-of row refusal-table position
-  given-by h =
-      let sizes = sizes-clear (length nt ∷ length wr ∷ []) (retape-wants (circuit f)) 2 (h 10 (lit< tt)) in
-      record {
-        sound = record { c1 = h 1 (lit< tt); c2 = h 2 (lit< tt); c3 = h 3 (lit< tt); c4 = h 4 (lit< tt); c5 = h 5 (lit< tt); c6 = h 6 (lit< tt) };
-        in-x = bits-clear x (inputs-of f) (h 7 (lit< tt));
-        in-t = bits-clear t (tapes-want (circuit f)) (h 8 (lit< tt));
-        site = h 11 (lit< tt);
-        nt-long = sizes 0 (omega arith);
-        wr-long = sizes 1 (omega arith);
-        in-y = bits-clear y (inputs-of f) (h 12 (lit< tt));
-      }
-
-  pub retape-ok : Accepts called → RetapeOk
-  unfolding Passes order concerns those-of stands-in given-of row refusal-table
-  retape-ok a =
-      let h = accepts-passes called a in
-      let sizes = sizes-clear (length nt ∷ length wr ∷ []) (retape-wants (circuit f)) 2 (h .1 .1 .1 .1 .1 .1 .1 .1 .1 .0) in
-      record {
-        given = record {
-          sound = record { c1 = h .0; c2 = h .1 .0; c3 = h .1 .1 .0; c4 = h .1 .1 .1 .0; c5 = h .1 .1 .1 .1 .0; c6 = h .1 .1 .1 .1 .1 .0 };
-          in-x = bits-clear x (inputs-of f) (h .1 .1 .1 .1 .1 .1 .0);
-          in-t = bits-clear t (tapes-want (circuit f)) (h .1 .1 .1 .1 .1 .1 .1 .0);
-          site = h .1 .1 .1 .1 .1 .1 .1 .1 .0;
-          nt-long = sizes 0 (omega arith);
-          wr-long = sizes 1 (omega arith);
-          in-y = bits-clear y (inputs-of f) (h .1 .1 .1 .1 .1 .1 .1 .1 .1 .1 .0);
-        };
-        keeps = keeps-clear (site-of s) (circuit f) x y (h .1 .1 .1 .1 .1 .1 .1 .1 .1 .1 .1 .0);
-      }
-
-  -- every check of re-taping but 13; ns is 13 or nothing
-  but-13 : (ns : List ℕ) → RetapeGiven → Passes (given-of called) ns → Passes (given-of called) (1 ∷ 2 ∷ 3 ∷ 4 ∷ 5 ∷ 6 ∷ 7 ∷ 8 ∷ 11 ∷ 10 ∷ 12 ∷ ns)
-  unfolding Passes given-of row refusal-table
-  but-13 ns k h =
-      front f x t [] y s (nt ∷ wr ∷ []) (retape-wants (circuit f)) [] (11 ∷ 10 ∷ 12 ∷ ns) (k .sound) (k .in-x) (k .in-t) (
-        k .site,
-        (
-          clear-sizes (length nt ∷ length wr ∷ []) (retape-wants (circuit f)) 2 (two-sizes _ _ _ _ (k .nt-long) (k .wr-long)),
-          (clear-bits y (inputs-of f) (k .in-y), h),
-        ),
-      )
-
-  pub ok-retape : RetapeOk → Accepts called
-  unfolding Passes order concerns those-of stands-in given-of row refusal-table
-  ok-retape k = passes-accepts called (but-13 (13 ∷ []) (k .given) (clear-keeps (site-of s) (circuit f) x y (k .keeps), tt))
+    pub keeps : Keeps F (site-of s) (circuit-with F f) x y
 
   -- refused with 13: all else is as it should be, and own inputs or opened bits are not kept
-  pub record Refused13 (p : ℕ) : Type 0 where
+  pub record Refused13 : Type 0 where
     pub given : RetapeGiven
-    pub unkept : ¬ Keeps (site-of s) (circuit f) x y
+    pub unkept : ¬ Keeps F (site-of s) (circuit-with F f) x y
 
-  pub refused-13 : (p : ℕ) → does called .answer ≡ refused 13 p → Refused13 p
-  unfolding order concerns those-of stands-in given-of row refusal-table position Holds
-  refused-13 p e =
-      let first : FirstRefusal (given-of called) (order called) 13 p = verdict-first (given-of called) (order called) 13 p .0 (refused-verdict called 13 p e) in
+module _ (F : Family) (L : Lawful F) (f x t y : List ℕ) (s : ℕ) (nt wr : List ℕ) where
+  abbrev called : Call
+  called = RetapeOf F f x t y s nt wr
+
+  abbrev Given : Type 0
+  Given = RetapeGiven F f x t y s nt wr
+
+  -- its checks but 13, and 13
+  abbrev but-13 : List Refusal
+  but-13 =
+      file-checks F f ++ (
+      refusal 7 (numbers-row F x (inputs-of f)) ∷ refusal 8 (numbers-row F t (tapes-want (circuit-with F f))) ∷ refusal 11 (row-site s)
+      ∷ refusal 10 (row-buffer (map length (nt ∷ wr ∷ [])) (retape-wants (circuit-with F f))) ∷ refusal 12 (numbers-row F y (inputs-of f)) ∷ [])
+
+  abbrev at-13 : Refusal
+  at-13 = refusal 13 (row-differs-of F (circuit-with F f) s x y)
+
+  given-by : Fitting F x → Fitting F t → Fitting F y → Passes but-13 → Given
+  unfolding Passes
+  given-by fx ft fy h =
+      let sizes = sizes-clear (length nt ∷ length wr ∷ []) (retape-wants (circuit-with F f)) 2 (h .1 .1 .1 .1 .1 .1 .1 .1 .1 .0) in
       record {
-        given = given-by (λ n l. first-passes (given-of called) (order called) 13 p first n l);
-        unkept = λ k. clears-none (given-of called) 13 p (clear-keeps (site-of s) (circuit f) x y k) (first .holds);
+        sound = record { c1 = h .0; c2 = h .1 .0; c3 = h .1 .1 .0; c4 = h .1 .1 .1 .0; c5 = h .1 .1 .1 .1 .0; c6 = h .1 .1 .1 .1 .1 .0 };
+        in-x = numbers-clear F L x (inputs-of f) fx (h .1 .1 .1 .1 .1 .1 .0);
+        in-t = numbers-clear F L t (tapes-want (circuit-with F f)) ft (h .1 .1 .1 .1 .1 .1 .1 .0);
+        site = h .1 .1 .1 .1 .1 .1 .1 .1 .0;
+        nt-long = sizes 0 (omega arith);
+        wr-long = sizes 1 (omega arith);
+        in-y = numbers-clear F L y (inputs-of f) fy (h .1 .1 .1 .1 .1 .1 .1 .1 .1 .1 .0);
       }
 
+  given-passes : Given → Passes but-13
+  unfolding Passes
+  given-passes k =
+      let sizes = clear-sizes (length nt ∷ length wr ∷ []) (retape-wants (circuit-with F f)) 2 (two-sizes _ _ _ _ (k .nt-long) (k .wr-long)) in
+      front F L f x t (k .sound) (k .in-x) (k .in-t) (k .site, (sizes, (clear-numbers F L y (inputs-of f) (k .in-y), tt)))
+
+  goes : called .checks ≡ but-13 ++ (at-13 ∷ [])
+  unfolding RetapeOf
+  goes = refl
+
+  pub retape-ok : Fitting F x → Fitting F t → Fitting F y → Accepts called → RetapeOk F f x t y s nt wr
+  unfolding Passes
+  retape-ok fx ft fy a =
+      let h = split but-13 (at-13 ∷ []) (subst Passes goes (accepts-passes called a)) in
+      record { given = given-by fx ft fy (h .0); keeps = keeps-clear F (site-of s) (circuit-with F f) x y (h .1 .0) }
+
+  pub ok-retape : RetapeOk F f x t y s nt wr → Accepts called
+  unfolding Passes
+  ok-retape k =
+      passes-accepts called
+      (subst Passes (sym goes) (joined but-13 (at-13 ∷ []) (given-passes (k .given)) (clear-keeps F (site-of s) (circuit-with F f) x y (k .keeps), tt)))
+
+  no-13 : Without 13 but-13
+  unfolding Without
+  no-13 = omega arith
+
+  pub refused-13 : Fitting F x → Fitting F t → Fitting F y → (p : ℕ) → does called .answer ≡ refused 13 p → Refused13 F f x t y s nt wr
+  refused-13 fx ft fy p e =
+      let r = verdict-after 13 p but-13 (at-13 ∷ []) no-13 (ap verdict (sym goes) ∙ refused-verdict called 13 p e) in
+      record { given = given-by fx ft fy (r .0); unkept = λ k. last-refuses 13 p (at-13 .row) (r .1) (clear-keeps F (site-of s) (circuit-with F f) x y k) }
+
   -- and back: where all else is as it should be and they are not kept, it is refused with 13
-  pub unkept-refused : RetapeGiven → ¬ Keeps (site-of s) (circuit f) x y → (p : ℕ) × (does called .answer ≡ refused 13 p)
-  unfolding Passes order concerns those-of stands-in given-of row refusal-table
-  unkept-refused k h =
-      let g = given-of called in
-      let front12 : List ℕ = 1 ∷ 2 ∷ 3 ∷ 4 ∷ 5 ∷ 6 ∷ 7 ∷ 8 ∷ 11 ∷ 10 ∷ 12 ∷ [] in (
-        fault (row g 13),
-        verdict-refused called 13 (fault (row g 13))
-            (verdict-skips g front12 (13 ∷ []) (but-13 [] k tt) ∙ verdict-last g 13 (λ c. h (keeps-clear (site-of s) (circuit f) x y c))),
-      )
+  pub unkept-refused : Given → ¬ Keeps F (site-of s) (circuit-with F f) x y → (p : ℕ) × (does called .answer ≡ refused 13 p)
+  unkept-refused k h = (
+    fault (at-13 .row),
+    verdict-refused called 13 (fault (at-13 .row))
+        (ap verdict goes ∙ verdict-skips but-13 (at-13 ∷ []) (given-passes k) ∙ verdict-last 13 (at-13 .row) (λ c. h (keeps-clear F (site-of s) (circuit-with F f) x y c))),
+  )
+
+-- at bits
+abbrev pub RunOk : (f x t l outs tr st : List ℕ) → Type 0
+RunOk = RunOkOf bit-family
+
+pub run-ok : (f x t l outs tr st : List ℕ) → Accepts (Run f x t l outs tr st) → RunOk f x t l outs tr st
+run-ok f x t l outs tr st = run-ok-of bit-family bit-lawful f x t l outs tr st (λ k. tt) (λ k. tt) (λ k. tt)
+
+abbrev pub ViewOk : (f x t : List ℕ) (s : ℕ) (v st : List ℕ) → Type 0
+ViewOk = ViewOkOf bit-family
+
+pub view-ok : (f x t : List ℕ) (s : ℕ) (v st : List ℕ) → Accepts (View f x t s v st) → ViewOk f x t s v st
+view-ok f x t s v st = view-ok-of bit-family bit-lawful f x t s v st (λ k. tt) (λ k. tt)
 
 -- a listing's job
 pub record ListingOk (j : List ℕ) : Type 0 where
   pub sound : Sound (job-file j)
-  pub in-x : Bits (job-inputs j) (inputs-of (job-file j))
-  pub in-t : Bits (job-tapes j) (tapes-want (circuit (job-file j)))
+  pub in-x : Numbers bit-family (job-inputs j) (inputs-of (job-file j))
+  pub in-t : Numbers bit-family (job-tapes j) (tapes-want (circuit (job-file j)))
 
 pub listing-ok : (j : List ℕ) → Accepts (Listing j) → ListingOk j
-unfolding Passes order concerns those-of stands-in given-of row refusal-table
+unfolding Passes Listing
 listing-ok j a =
     let h = accepts-passes (Listing j) a .1 in
     record {
       sound = record { c1 = h .0; c2 = h .1 .0; c3 = h .1 .1 .0; c4 = h .1 .1 .1 .0; c5 = h .1 .1 .1 .1 .0; c6 = h .1 .1 .1 .1 .1 .0 };
-      in-x = bits-clear (job-inputs j) (inputs-of (job-file j)) (h .1 .1 .1 .1 .1 .1 .0);
-      in-t = bits-clear (job-tapes j) (tapes-want (circuit (job-file j))) (h .1 .1 .1 .1 .1 .1 .1 .0);
+      in-x = numbers-clear bit-family bit-lawful (job-inputs j) (inputs-of (job-file j)) (λ k. tt) (h .1 .1 .1 .1 .1 .1 .0);
+      in-t = numbers-clear bit-family bit-lawful (job-tapes j) (tapes-want (circuit (job-file j))) (λ k. tt) (h .1 .1 .1 .1 .1 .1 .1 .0);
     }
 
-pub check-sound : (f : List ℕ) → Accepts (Check f) → Sound f
-unfolding Passes order concerns those-of stands-in given-of
-check-sound f a =
-    let h = accepts-passes (Check f) a in
+pub check-sound : (F : Family) (f : List ℕ) → Accepts (CheckOf F f) → SoundOf F f
+unfolding Passes CheckOf
+check-sound F f a =
+    let h = accepts-passes (CheckOf F f) a in
     record { c1 = h .0; c2 = h .1 .0; c3 = h .1 .1 .0; c4 = h .1 .1 .1 .0; c5 = h .1 .1 .1 .1 .0; c6 = h .1 .1 .1 .1 .1 .0 }

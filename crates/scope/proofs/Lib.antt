@@ -1,5 +1,7 @@
 pub mod PlainLaws
+pub mod FamilyLaws
 pub mod Refusals
+pub mod Orders
 pub mod RowLaws
 pub mod CallLaws
 pub mod Places
@@ -7,5 +9,9 @@ pub mod Accepted
 pub mod RunCall
 pub mod RetapeCall
 pub mod Limits
-pub mod Lengths
-pub mod Whole
+pub mod Tidy
+pub mod Demand1
+pub mod Demand2
+pub mod Demand3
+pub mod ViewOfRun
+pub mod Figures

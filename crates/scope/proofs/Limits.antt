@@ -14,8 +14,8 @@ use lib.Dec.{eqb}
 use borrow.Author.Tests.{leb-true, eqb-true, not-false}
 use Rattle.sharing.specs.Circuit.{Gate, XOR, AND, OR, NOT, dealing, ands}
 use Rattle.scope.specs.File.{le32, inputs-of, gates-of, outputs-of, size, circuit}
-use Rattle.scope.specs.Checks.{tested, tapes-want, line-want, row, refusal-table}
-use Rattle.scope.specs.Calls.{Open, given-of}
+use Rattle.scope.specs.Family.{Family, circuit-with}
+use Rattle.scope.specs.Checks.{tested, row-large, row-field, tapes-want, line-want}
 use Rattle.scope.proofs.Refusals.{Clears}
 
 or-first : (a b : Bool) → (a || b) ≡ false → a ≡ false
@@ -39,8 +39,8 @@ pub record Limits (f : List ℕ) : Type 0 where
   pub few-outputs : outputs-of f ≤ 256
   pub as-long : length f ≡ size (inputs-of f) (gates-of f) (outputs-of f)
 
-pub limits : (f : List ℕ) → Clears (given-of (Open f)) 2 → Clears (given-of (Open f)) 3 → Limits f
-unfolding given-of row refusal-table tested
+pub limits : (f : List ℕ) → Clears (row-large f) → Clears (row-field f) → Limits f
+unfolding tested
 limits f c2 c3 = record {
   few-inputs = leb-true _ _ (not-false _ (or-first _ _ (c2 0 (omega arith))));
   few-gates = leb-true _ _ (not-false _ (or-first _ _ (c2 1 (omega arith))));
@@ -68,10 +68,10 @@ module _ (f : List ℕ) (l : Limits f) where
   unfolding size
   small-file = let a = l .few-inputs in let b = l .few-gates in let c = l .few-outputs in let d = l .as-long in omega arith
 
-  pub small-line : line-want (circuit f) ≤ 42496
-  small-line =
+  pub small-line : (F : Family) → line-want (circuit-with F f) ≤ 42496
+  small-line F =
       let a = l .few-inputs in let b = l .few-gates in let c = l .few-outputs in
-      let d = ands-most (circuit f .gate) (gates-of f) in omega arith
+      let d = ands-most (circuit-with F f .gate) (gates-of f) in omega arith
 
   pub small-tapes : tapes-want (circuit f) ≤ 20480
   small-tapes = let a = l .few-inputs in let b = l .few-gates in let d = ands-most (circuit f .gate) (gates-of f) in omega arith

@@ -3,16 +3,16 @@
 --     refuse-at         the first test that holds refuses, else what comes after
 --     place-verdict     a row of such places in a verdict;  place-fault: by itself
 -- Assumes nothing.
-use mathlib.Core.Path.{_≡_, refl, sym, ap, _∙_, fun-ext}
-use mathlib.Core.Bool.{Bool, true, false, cond, _&&_, _||_}
+use mathlib.Core.Path.{_≡_, refl, ap, _∙_, fun-ext}
+use mathlib.Core.Bool.{Bool, true, false, cond, _&&_}
 use mathlib.Core.List.{List, [], _∷_}
-use Prim.Native.Nat.{ℕ, zero, suc, _<_, _≤_}
+use Prim.Native.Nat.{ℕ, suc, _<_, _≤_}
 use native.Mathlib.Omega.{arith}
 use lib.Dec.{ltb, eqb}
 use borrow.Author.Tests.{lt-ltb, le-ltb, eq-eqb, ne-eqb}
 use Rattle.sharing.specs.First.{first}
-use Rattle.sharing.proofs.FirstLaws.{Clear, first-at, first-none}
-use Rattle.scope.specs.Checks.{Given, Row, tested, at-places, row, fault, Verdict, refuses, verdict}
+use Rattle.sharing.proofs.FirstLaws.{first-at, first-none}
+use Rattle.scope.specs.Checks.{tested, at-places, Refusal, refusal, fault, Verdict, refuses, verdict}
 
 unfoldable pub Rising : ℕ → List (ℕ × Bool) → ℕ → Type 0
 Rising lo [] n = Unit {0}
@@ -67,9 +67,9 @@ scan-verdict N (t ∷ ts) lo n v r = go (t .1) (scan-verdict N ts (suc (t .0)) n
     go true ih = rw (lt-ltb (t .0) n (r .1))
     go false ih = ih
 
-pub place-verdict : (g : Given) (N n : ℕ) (ts : List (ℕ × Bool)) (ns : List ℕ) → row g N ≡ at-places n ts → Rising 0 ts n → verdict g (N ∷ ns) ≡ refuse-at N ts (verdict g ns)
+pub place-verdict : (N n : ℕ) (ts : List (ℕ × Bool)) (cs : List Refusal) → Rising 0 ts n → verdict (refusal N (at-places n ts) ∷ cs) ≡ refuse-at N ts (verdict cs)
 unfolding verdict fault
-place-verdict g N n ts ns e r = rw (e, first-tested ts 0 n r) (scan-verdict N ts 0 n (verdict g ns) r)
+place-verdict N n ts cs r = rw (first-tested ts 0 n r) (scan-verdict N ts 0 n (verdict cs) r)
 
 -- the fault of such a row by itself
 pub place-fault : (n : ℕ) (ts : List (ℕ × Bool)) → Rising 0 ts n → fault (at-places n ts) ≡ scan ts n

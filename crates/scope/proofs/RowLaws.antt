@@ -1,57 +1,63 @@
 -- What it means that a row of the table of refusals holds nowhere.
---     Bits, bits-clear, clear-bits      7, 8, 9, 12: the wanted length, and every byte 0 or 1
+--     numbers-clear, clear-numbers      7, 8, 9, 12: the wanted length, and every number the family's;  bits-clear: at bits
 --     sizes-clear, clear-sizes          10: every buffer has its length
 --     Keeps, keeps-clear, clear-keeps   13: own inputs and opened bits are kept
 -- Assumes nothing.
-use mathlib.Core.Path.{_≡_, refl, sym, ap, ap₂, _∙_, subst}
+use mathlib.Core.Path.{_≡_, refl, sym, ap, _∙_, subst}
 use mathlib.Core.Bool.{Bool, true, false, not, cond, _&&_, true≢false}
-use mathlib.Core.Logic.{⊎-elim}
-use mathlib.Core.List.{List, [], _∷_}
-use Prim.Native.Nat.{ℕ, zero, suc, _+_, _-_, _<_, _≤_}
+use mathlib.Core.List.{List}
+use Prim.Native.Nat.{ℕ, suc, _+_, _-_, _<_, _≤_}
 use native.Mathlib.Omega.{arith}
 use lib.ListN.{length, getD, List·getD-eq-default}
-use lib.Dec.{leb, ltb, eqb}
-use borrow.Author.Tests.{leb-true, le-leb, lt-ltb, le-ltb, ltb-true, ltb-false, eqb-true, eqb-false, eq-eqb, ne-eqb, not-true, not-false}
+use lib.Dec.{ltb, eqb}
+use borrow.Author.Tests.{lt-ltb, le-ltb, ltb-true, ltb-false, eqb-true, eq-eqb, not-false}
 use Rattle.sharing.specs.Sites.{Site, is}
 use Rattle.sharing.specs.Circuit.{Circuit}
 use Rattle.sharing.proofs.FirstLaws.{Clear}
 use Rattle.sharing.proofs.SiteLaws.{is-itself, Seen, itself, behind, before, seen, is-behind, is-before}
-use Rattle.scope.specs.Checks.{bits-row}
-use Rattle.scope.specs.Plain.{plain-out}
-use Rattle.scope.specs.Statements.{Bits, Keeps}
+use Rattle.scope.specs.Checks.{numbers-row}
+use Rattle.scope.specs.AtBits.{bits-row}
+use Rattle.scope.specs.Statements.{Family, bit-family, Fitting, Numbers, Bits, out-of, Keeps, Keeps}
+use Rattle.scope.proofs.FamilyLaws.{Lawful, bit-lawful}
 
 and-left : (a b : Bool) → a ≡ true → (a && b) ≡ false → b ≡ false
 and-left a b e h = rw e at h
 
+module _ (F : Family) (L : Lawful F) (l : List ℕ) (want : ℕ) where
+  pub numbers-clear : Fitting F l → Clear (numbers-row F l want .bad) (suc want) → Numbers F l want
+  numbers-clear fits c = record { long = long; small = small }
+    where
+      go : (b : Bool) → eqb (length l) want ≡ b → b ≡ true
+      go true e = refl
+      go false e = absurd (true≢false (sym (rw (e, eq-eqb want want refl)) ∙ c want (omega arith)))
+
+      long : length l ≡ want
+      long = eqb-true _ _ (go (eqb (length l) want) refl)
+
+      below : (k : ℕ) → k < want → F .Small (getD l k 0)
+      below k h =
+          let e : (ltb k want && not (F .fine (getD l k 0))) ≡ false = sym (rw (eq-eqb _ _ long)) ∙ c k (omega arith) in
+          L .fine-small _ (fits k) (not-false _ (and-left (ltb k want) _ (lt-ltb k want h) e))
+
+      small : (k : ℕ) → F .Small (getD l k 0)
+      small k = pick (ltb k want) refl
+        where
+          pick : (b : Bool) → ltb k want ≡ b → F .Small (getD l k 0)
+          pick true e = below k (ltb-true _ _ e)
+          pick false e =
+              let h : want ≤ k = ltb-false _ _ e in
+              let d : getD l k 0 ≡ 0 = List·getD-eq-default l 0 (omega (arith, long)) in
+              subst (F .Small) (sym d) (L .closed .in-zero)
+
+  pub clear-numbers : Numbers F l want → Clear (numbers-row F l want .bad) (suc want)
+  clear-numbers b p h = rw (eq-eqb _ _ (b .long), L .small-fine _ (b .small p)) (no (ltb p want))
+    where
+      no : (c : Bool) → (c && false) ≡ false
+      no true = refl
+      no false = refl
+
 pub bits-clear : (l : List ℕ) (want : ℕ) → Clear (bits-row l want .bad) (suc want) → Bits l want
-bits-clear l want c = record { long = long; small = small }
-  where
-    go : (b : Bool) → eqb (length l) want ≡ b → b ≡ true
-    go true e = refl
-    go false e = absurd (true≢false (sym (rw (e, eq-eqb want want refl)) ∙ c want (omega arith)))
-
-    long : length l ≡ want
-    long = eqb-true _ _ (go (eqb (length l) want) refl)
-
-    below : (k : ℕ) → k < want → getD l k 0 < 2
-    below k h =
-        let e : (ltb k want && not (leb (getD l k 0) 1)) ≡ false = sym (rw (eq-eqb _ _ long)) ∙ c k (omega arith) in
-        let q : getD l k 0 ≤ 1 = leb-true _ _ (not-false _ (and-left (ltb k want) _ (lt-ltb k want h) e)) in
-        omega arith
-
-    small : (k : ℕ) → getD l k 0 < 2
-    small k = pick (ltb k want) refl
-      where
-        pick : (b : Bool) → ltb k want ≡ b → getD l k 0 < 2
-        pick true e = below k (ltb-true _ _ e)
-        pick false e = let h : want ≤ k = ltb-false _ _ e in let d : getD l k 0 ≡ 0 = List·getD-eq-default l 0 (omega (arith, long)) in omega arith
-
-pub clear-bits : (l : List ℕ) (want : ℕ) → Bits l want → Clear (bits-row l want .bad) (suc want)
-clear-bits l want b p h = rw (eq-eqb _ _ (b .long), le-leb (getD l p 0) 1 (let k = b .small p in omega arith)) (no (ltb p want))
-  where
-    no : (c : Bool) → (c && false) ≡ false
-    no true = refl
-    no false = refl
+bits-clear l want c = numbers-clear bit-family bit-lawful l want (λ k. tt) c
 
 module _ (ls ws : List ℕ) where
   abbrev wrong-size : ℕ → Bool
@@ -71,25 +77,25 @@ is-true s t e = go t (seen s t) e
     go t behind e = absurd (true≢false (sym e ∙ is-behind s))
     go t before e = absurd (true≢false (sym e ∙ is-before s))
 
-module _ (s : Site) (C : Circuit) (x y : List ℕ) where
-  abbrev pub differs : ℕ → Bool
-  differs p =
+module _ (F : Family) (s : Site) (C : Circuit) (x y : List ℕ) where
+  abbrev pub differs-in : ℕ → Bool
+  differs-in p =
       cond (ltb p (C .ins)) (is s (C .owner p) && not (eqb (getD x p 0) (getD y p 0)))
-      (not (eqb (plain-out C x (p - C .ins)) (plain-out C y (p - C .ins))))
+      (not (eqb (out-of F C x (p - C .ins)) (out-of F C y (p - C .ins))))
 
-  pub keeps-clear : Clear differs (C .ins + C .outs) → Keeps s C x y
+  pub keeps-clear : Clear differs-in (C .ins + C .outs) → Keeps F s C x y
   keeps-clear c = record {
     own = λ i h e.
         let q : (is s (C .owner i) && not (eqb (getD x i 0) (getD y i 0))) ≡ false = sym (rw (lt-ltb _ _ h)) ∙ c i (omega arith) in
         sym (eqb-true _ _ (not-false _ (and-left _ _ (ap (is s) e ∙ is-itself s) q)));
     opens = λ o h.
         let d : C .ins + o - C .ins ≡ o = omega arith in
-        let q : not (eqb (plain-out C x (C .ins + o - C .ins)) (plain-out C y (C .ins + o - C .ins))) ≡ false =
+        let q : not (eqb (out-of F C x (C .ins + o - C .ins)) (out-of F C y (C .ins + o - C .ins))) ≡ false =
         sym (rw (le-ltb (C .ins + o) (C .ins) (omega arith))) ∙ c (C .ins + o) (omega arith) in
-        sym (eqb-true _ _ (not-false _ (sym (ap (λ (z : ℕ). not (eqb (plain-out C x z) (plain-out C y z))) d) ∙ q)));
+        sym (eqb-true _ _ (not-false _ (sym (ap (λ (z : ℕ). not (eqb (out-of F C x z) (out-of F C y z))) d) ∙ q)));
   }
 
-  pub clear-keeps : Keeps s C x y → Clear differs (C .ins + C .outs)
+  pub clear-keeps : Keeps F s C x y → Clear differs-in (C .ins + C .outs)
   clear-keeps k p h = go (ltb p (C .ins)) refl
     where
       own : (b : Bool) → is s (C .owner p) ≡ b → p < C .ins → (b && not (eqb (getD x p 0) (getD y p 0))) ≡ false
@@ -97,8 +103,12 @@ module _ (s : Site) (C : Circuit) (x y : List ℕ) where
       own false e l = refl
 
       go : (b : Bool) → ltb p (C .ins) ≡ b
-          → cond b (is s (C .owner p) && not (eqb (getD x p 0) (getD y p 0))) (not (eqb (plain-out C x (p - C .ins)) (plain-out C y (p - C .ins)))) ≡ false
+          → cond b (is s (C .owner p) && not (eqb (getD x p 0) (getD y p 0))) (not (eqb (out-of F C x (p - C .ins)) (out-of F C y (p - C .ins)))) ≡ false
       go true e = own (is s (C .owner p)) refl (ltb-true _ _ e)
       go false e =
           let l : C .ins ≤ p = ltb-false _ _ e in
-          rw (eq-eqb (plain-out C x (p - C .ins)) (plain-out C y (p - C .ins)) (sym (k .opens (p - C .ins) (omega arith))))
+          rw (eq-eqb (out-of F C x (p - C .ins)) (out-of F C y (p - C .ins)) (sym (k .opens (p - C .ins) (omega arith))))
+
+-- at bits
+abbrev pub differs : Site → Circuit → List ℕ → List ℕ → ℕ → Bool
+differs = differs-in bit-family

@@ -3,7 +3,7 @@
 --     size                  the length that the counts ask for
 --     kind-at, first-at, second-at, owner-at, output-at    the stored numbers as they stand, by number
 --     site-of, gate-of      what an owner's byte and a gate's three numbers mean
---     circuit-of, circuit   the circuit that a file holds, by counts and by its own
+--     circuit-by, circuit   the circuit that a file holds, by counts and by its own
 -- A byte beyond the end reads 0. Nothing here asks that the file is good: that is Checks.antt.
 use mathlib.Core.List.{List}
 use Prim.Native.Nat.{ℕ, zero, suc, _+_, _*_}
@@ -68,16 +68,16 @@ gate-of (suc (suc zero)) a b = AND a b
 gate-of (suc (suc (suc zero))) a b = NOT a
 gate-of (suc (suc (suc (suc n)))) a b = OR a b
 
--- a file read by given counts, so that code which holds the counts and definitions which read them from the file mean one thing
-abbrev pub circuit-of : List ℕ → ℕ → ℕ → ℕ → Circuit
-circuit-of f i g o = record {
+-- a file read by given counts, a gate's three numbers meaning what a family says
+abbrev pub circuit-by : (ℕ → ℕ → ℕ → Gate) → List ℕ → ℕ → ℕ → ℕ → Circuit
+circuit-by meaning f i g o = record {
   ins = i;
   gates = g;
   outs = o;
   owner = λ k. site-of (owner-at f k);
-  gate = λ k. gate-of (kind-at f i k) (first-at f i k) (second-at f i k);
+  gate = λ k. meaning (kind-at f i k) (first-at f i k) (second-at f i k);
   out = λ k. output-at f i g k;
 }
 
 abbrev pub circuit : List ℕ → Circuit
-circuit f = circuit-of f (inputs-of f) (gates-of f) (outputs-of f)
+circuit f = circuit-by gate-of f (inputs-of f) (gates-of f) (outputs-of f)

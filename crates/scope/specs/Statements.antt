@@ -12,51 +12,44 @@ use mathlib.Core.Path.{_≡_}
 use mathlib.Core.List.{List, [], _∷_, _++_}
 use Prim.Native.Nat.{ℕ, zero, suc, _*_, _<_}
 use lib.ListN.{length, getD, take, drop}
-use Rattle.sharing.specs.Ops.{bits}
 use Rattle.sharing.specs.Sites.{Site, sites-before, of}
 use Rattle.sharing.specs.Circuit.{Circuit, wires}
 use Rattle.sharing.specs.Steps.{Pair}
 use Rattle.sharing.specs.Run.{copies-at}
 use Rattle.sharing.specs.Tapes.{read}
 use Rattle.sharing.specs.Line.{errors}
-use Rattle.scope.specs.File.{circuit}
-use Rattle.scope.specs.Plain.{plain-out}
+pub use Rattle.scope.specs.Family.{Family, bit-family, circuit-with, Fitting, Numbers, Bits, out-of}
 use Rattle.scope.specs.Calls.{at-wire}
-
--- a slice of the wanted length, each byte 0 or 1
-pub record Bits (l : List ℕ) (want : ℕ) : Type 0 where
-  pub long : length l ≡ want
-  pub small : (k : ℕ) → getD l k 0 < 2
 
 unfoldable pub Clean : List ℕ → Type 0
 Clean l = (k : ℕ) → getD l k 0 ≡ 0
 
 -- the two copies of the part that site s lacks, at output o of the run of file f on inputs x, tapes t and line l
-abbrev pub copies-of : List ℕ → List ℕ → List ℕ → List ℕ → ℕ → Site → Pair
-copies-of f x t l o s = of (copies-at bits (circuit f) (at-wire x) (read (circuit f) t) (errors (circuit f) l) o) s
+abbrev pub copies-of : Family → List ℕ → List ℕ → List ℕ → List ℕ → ℕ → Site → Pair
+copies-of F f x t l o s = of (copies-at (F .ops) (circuit-with F f) (at-wire x) (read (circuit-with F f) t) (errors (circuit-with F f) l) o) s
 
-unfoldable pub Alike : List ℕ → List ℕ → List ℕ → List ℕ → ℕ → Type 0
-Alike f x t l o = (s : Site) → copies-of f x t l o s .0 ≡ copies-of f x t l o s .1
+unfoldable pub Alike : Family → List ℕ → List ℕ → List ℕ → List ℕ → ℕ → Type 0
+Alike F f x t l o = (s : Site) → copies-of F f x t l o s .0 ≡ copies-of F f x t l o s .1
 
-pub record StopsAt (f x t l : List ℕ) (o : ℕ) : Type 0 where
-  pub below : o < circuit f .outs
-  pub unlike : ¬ Alike f x t l o
-  pub before : (p : ℕ) → p < o → Alike f x t l p
+pub record StopsAt (F : Family) (f x t l : List ℕ) (o : ℕ) : Type 0 where
+  pub below : o < circuit-with F f .outs
+  pub unlike : ¬ Alike F f x t l o
+  pub before : (p : ℕ) → p < o → Alike F f x t l p
 
 -- 00: "other inputs to the same circuit that keep that site's own bits and all opened bits"
-pub record Keeps (s : Site) (C : Circuit) (x y : List ℕ) : Type 0 where
+pub record Keeps (F : Family) (s : Site) (C : Circuit) (x y : List ℕ) : Type 0 where
   pub own : (i : ℕ) → i < C .ins → C .owner i ≡ s → getD y i 0 ≡ getD x i 0
-  pub opens : (o : ℕ) → o < C .outs → plain-out C y o ≡ plain-out C x o
+  pub opens : (o : ℕ) → o < C .outs → out-of F C y o ≡ out-of F C x o
 
 -- 00: "opens at all three sites to its plain Boolean value"
-unfoldable pub opened-plain : Circuit → List ℕ → ℕ → List ℕ
-opened-plain C x zero = []
-opened-plain C x (suc o) = opened-plain C x o ++ (plain-out C x o ∷ plain-out C x o ∷ plain-out C x o ∷ [])
+unfoldable pub opened-plain : Family → Circuit → List ℕ → ℕ → List ℕ
+opened-plain F C x zero = []
+opened-plain F C x (suc o) = opened-plain F C x o ++ (out-of F C x o ∷ out-of F C x o ∷ out-of F C x o ∷ [])
 
 -- each output's plain value
-unfoldable pub plain-outs : Circuit → List ℕ → ℕ → List ℕ
-plain-outs C x zero = []
-plain-outs C x (suc o) = plain-outs C x o ++ (plain-out C x o ∷ [])
+unfoldable pub plain-outs : Family → Circuit → List ℕ → ℕ → List ℕ
+plain-outs F C x zero = []
+plain-outs F C x (suc o) = plain-outs F C x o ++ (out-of F C x o ∷ [])
 
 -- 01: "Site s's part starts at 2W(s-1)", and has 2W bytes
 abbrev pub part-of : Site → Circuit → List ℕ → List ℕ

@@ -14,7 +14,6 @@ use lib.ListN.{length, getD}
 use Rattle.sharing.specs.Ops.{bits}
 use Rattle.sharing.specs.Sites.{Site, s1, s2, s3, is}
 use Rattle.sharing.specs.Circuit.{Circuit, all-ands, owned, all-owned}
-use Rattle.sharing.specs.Run.{ins-after}
 use Rattle.sharing.specs.Tapes.{tape-length, read}
 use Rattle.sharing.specs.Store.{fill}
 use Rattle.sharing.proofs.OrderLaws.{ins-got-length}
@@ -27,10 +26,9 @@ use Rattle.header.specs.declared.Counts.{Counts}
 use Rattle.engine.specs.declared.Pos.{Pos}
 use Rattle.engine.specs.Mirror.{St, st, own-place}
 use Rattle.engine.proofs.EngineLaws.{owned-room, own-room}
-use Rattle.link.specs.Link.{cut3}
+use Rattle.link.specs.Places.{puts}
 use Rattle.link.specs.Loops.{base, in-places}
-use Rattle.link.proofs.PartLaws.{store-none, cut-ok}
-use Rattle.link.proofs.GatesLaw.{st-eq}
+use Rattle.link.proofs.EngineRuns.{st-eq}
 use Rattle.seen.specs.Mirror.{input-seen, ins-seen, start-seen, Seeing}
 use Rattle.seen.proofs.SeenLaws.{in-step}
 
@@ -61,11 +59,11 @@ module _ (f xs tapes : List ℕ) (s : Site) (store got : List ℕ) (c : Counts) 
   n = c .inputs + c .gates
 
   abbrev state : ℕ → St
-  state k = ins-seen s C (at-wire xs) (read C tapes) (cut3 n store) got k
+  state k = ins-seen s C (at-wire xs) (read C tapes) n store got k
 
   pub ins-start : (pos : Pos) → pos ≡ start-seen C → st store got pos ≡ state 0
-  unfolding ins-seen ins-after ins-got in-places fill
-  ins-start pos e = st-eq (store-none n store) refl e
+  unfolding ins-seen puts ins-got in-places fill
+  ins-start pos e = st-eq refl refl e
 
   -- how far the site's bits have come
   there : (k : ℕ) → k < c .inputs → length (ins-got bits s C (at-wire xs) (read C tapes) k) + 2 ≤ length got + 2 * cond (is s (C .owner k)) 1 0
@@ -80,7 +78,7 @@ module _ (f xs tapes : List ℕ) (s : Site) (store got : List ℕ) (c : Counts) 
   ins-turn k y z h e q =
       let i = d .checked .opened .ins-are in
       q ∙ ap (input-seen s tapes n k (getD xs k 0) (owner-at f k) (cond (is s (C .owner k)) 1 0)) e
-      ∙ in-step s C (at-wire xs) tapes (cut3 n store) got n (cut-ok n store (d .ls)) k (owner-at f k) (cond (is s (C .owner k)) 1 0) (omega arith) refl refl (omega arith) (there k h)
+      ∙ in-step s C (at-wire xs) tapes n store got k (owner-at f k) (cond (is s (C .owner k)) 1 0) (omega arith) refl refl (there k h)
       ∙ ap state (sym (add-one k))
 
   pub ins-room : (k r : ℕ) (y : St) → k < c .inputs → r ≡ length got → y ≡ state k → InRoom f s k (length tapes) r (y .pos)

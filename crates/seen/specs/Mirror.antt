@@ -12,9 +12,8 @@ use mathlib.Core.List.{List}
 use Prim.Native.Nat.{ℕ, zero, suc, _+_, _*_, _≤_}
 use lib.ListN.{length, set}
 use Rattle.sharing.specs.Ops.{bits}
-use Rattle.sharing.specs.Sites.{Site, s1, s2, s3, Trio}
+use Rattle.sharing.specs.Sites.{Site, s1, s2, s3}
 use Rattle.sharing.specs.Circuit.{Gate, XOR, AND, OR, NOT, Circuit, Draws, no-errors, ands, all-ands, all-owned}
-use Rattle.sharing.specs.Run.{ins-after, after}
 use Rattle.sharing.specs.Tapes.{read}
 use Rattle.sharing.specs.Store.{fill}
 use Rattle.sharing.proofs.Seen.{ins-got, gates-got}
@@ -30,8 +29,8 @@ use Rattle.messages.specs.declared.Twelve.{Twelve}
 use Rattle.messages.specs.declared.Held.{Held}
 use Rattle.engine.specs.declared.Pos.{Pos}
 use Rattle.engine.specs.Mirror.{St, st, placed, own-place, in-pos}
-use Rattle.link.specs.Link.{stored, Cut}
 use Rattle.link.specs.Loops.{place, in-place}
+use Rattle.link.specs.Places.{as-is, stored}
 use Rattle.circuit.specs.Loop.{up-to}
 
 unfoldable pub pair-of-site : Site → Held → Two
@@ -84,15 +83,15 @@ gate-seen s tapes n w (NOT a) x = st (not-gate bits n a w (x .store)) (x .tr) (x
 abbrev pub gates-seen : Site → List ℕ → List ℕ → ℕ → ℕ → St → ℕ → St
 gates-seen s file tapes i n x k = up-to (λ g. gate-seen s tapes n (i + g) (circuit file .gate g)) x k
 
--- ---- the document's states, over a store o and delivered bits old of whatever was there before
-module _ (s : Site) (C : Circuit) (x : ℕ → ℕ) (T : Draws) (o : Trio (List ℕ)) (old : List ℕ) where
+-- ---- the document's states, over a store l and delivered bits old of whatever was there before
+module _ (s : Site) (C : Circuit) (x : ℕ → ℕ) (T : Draws) (n : ℕ) (l old : List ℕ) where
   unfoldable pub ins-seen : ℕ → St
   ins-seen i =
-      st (stored o (ins-after bits C x T no-errors i)) (fill old (ins-got bits s C x T i)) (with-at (in-place C i) (length (ins-got bits s C x T i)))
+      st (stored C x T no-errors n as-is l i) (fill old (ins-got bits s C x T i)) (with-at (in-place C i) (length (ins-got bits s C x T i)))
 
   unfoldable pub state-seen : ℕ → St
   state-seen g =
-      st (stored o (after bits C x T no-errors g)) (fill old (gates-got bits s C x T g))
+      st (stored C x T no-errors n as-is l (C .ins + g)) (fill old (gates-got bits s C x T g))
       (with-at (place C (ands (C .gate) g)) (length (gates-got bits s C x T g)))
 
 abbrev pub start-seen : Circuit → Pos
@@ -115,8 +114,8 @@ pub record Seeing (f : List ℕ) (c : Counts) (s : Site) (tapes got store : ℕ)
 
 pub record Begun (f : List ℕ) (s : Site) (tapes : List ℕ) (n got : ℕ) (y : St) : Type 0 where
   pub x : ℕ → ℕ
-  pub o : Trio (List ℕ)
+  pub l : List ℕ
   pub old : List ℕ
-  pub cut : Cut n o
+  pub fits : length l ≡ 6 * n
   pub long : length old ≡ got
-  pub is : y ≡ state-seen s (circuit f) x (read (circuit f) tapes) o old 0
+  pub is : y ≡ state-seen s (circuit f) x (read (circuit f) tapes) n l old 0

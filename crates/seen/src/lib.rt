@@ -9,7 +9,6 @@ ghost use Rattle.scope.specs.File.{circuit, owner-at, site-of};
 ghost use Rattle.scope.specs.Calls.{at-wire};
 ghost use Rattle.circuit.specs.Checked.{Checked};
 ghost use Rattle.engine.specs.Mirror.{st, own-place};
-ghost use Rattle.link.specs.Link.{cut3};
 ghost use Rattle.seen.specs.Mirror.{pair-of-site, put-two, see-two, past-two, input-seen, ins-seen, start-seen, Seeing};
 use circuit::Owner;
 use engine::Pos;
@@ -135,7 +134,7 @@ pub fn inputs_pass(
 ) -> Pos
     requires { ⌜ Seeing (now file) c (site-of site) (length (now tapes)) (length (now got)) (length (now store)) × (length (now xs) ≡ c .inputs) ⌝ }
     requires { ⌜ pos ≡ start-seen (circuit (now file)) ⌝ }
-    ensures { λ r. ⌜ st (now (store .exit)) (now (got .exit)) r ≡ ins-seen (site-of site) (circuit (now (file .entry))) (at-wire (now (xs .entry))) (read (circuit (now (file .entry))) (now (tapes .entry))) (cut3 (c .inputs + c .gates) (now (store .entry))) (now (got .entry)) (c .inputs) ⌝ }
+    ensures { λ r. ⌜ st (now (store .exit)) (now (got .exit)) r ≡ ins-seen (site-of site) (circuit (now (file .entry))) (at-wire (now (xs .entry))) (read (circuit (now (file .entry))) (now (tapes .entry))) (c .inputs + c .gates) (now (store .entry)) (now (got .entry)) (c .inputs) ⌝ }
 {
     let i = c.inputs;
     let mut q = pos;

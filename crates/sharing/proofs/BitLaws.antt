@@ -1,15 +1,15 @@
 -- Bits are a group with a product: xor and and, on all numbers, so that no law asks for a bound.
---     bit-group     the laws
+--     bit-laws, bit-group     the laws
 --     bit-closed    0 and 1 stay 0 and 1
 -- Assumes nothing.
-use mathlib.Core.Path.{_≡_, refl, sym, ap, ap₂, _∙_, subst}
+use mathlib.Core.Path.{_≡_, refl, sym, ap, ap₂, _∙_}
 use Prim.Native.Nat.{ℕ, zero, suc, _+_, _*_, _/_, _%_, _<_, min}
 use native.Mathlib.Nat.{mod-lt, zero-lt-suc}
-use lib.Arith.{bin-ind, digits-div, digits-mod}
-use lib.Bits.{bitXor, bitAnd, differ, xor-step, and-step, xor-comm, and-comm, xor-self, xor-zero-l, xor-zero-r, and-zero-l, xor-shr, and-shr, xor-lt, and-lt}
+use lib.Arith.{bin-ind, digits-mod}
+use lib.Bits.{bitXor, bitAnd, differ, xor-step, and-step, xor-comm, and-comm, xor-self, xor-zero-r, xor-shr, and-shr, xor-lt, and-lt}
 use native.Mathlib.Omega.{arith}
-use Rattle.sharing.specs.Ops.{Ops, bits}
-use Rattle.sharing.proofs.Group.{Group, Closed}
+use Rattle.sharing.specs.Ops.{bits}
+use Rattle.sharing.proofs.Group.{Group, Laws, Closed}
 
 -- a fact of 0 and of 1 is a fact of each digit
 digit : (P : ℕ → Type 0) → P 0 → P 1 → (a : ℕ) → P (a % 2)
@@ -81,9 +81,8 @@ xor-and a b c = and-comm (bitXor a b) c ∙ and-xor c a b ∙ ap₂ bitXor (and-
 pub xor-twice : (a b : ℕ) → bitXor (bitXor a b) b ≡ a
 xor-twice a b = xor-assoc a b b ∙ ap (λ (z : ℕ). bitXor a z) (xor-self b) ∙ xor-zero-r a
 
-abbrev pub bit-group : Group
-bit-group = record {
-  ops = bits;
+abbrev pub bit-laws : Laws bits
+bit-laws = record {
   Ok = λ _. Unit {0};
   ok-zero = tt;
   add-zero = λ a h. xor-zero-r a;
@@ -97,9 +96,11 @@ bit-group = record {
   add-sub = λ a b h. xor-twice a b;
 }
 
-abbrev pub bit-closed : Closed bits
+abbrev pub bit-group : Group
+bit-group = record { ops = bits; laws = bit-laws }
+
+abbrev pub bit-closed : Closed bits (λ a. a < 2)
 bit-closed = record {
-  In = λ a. a < 2;
   in-zero = omega arith;
   in-one = omega arith;
   in-add = λ a b. xor-lt 1 a b;

@@ -18,7 +18,7 @@ use Rattle.sharing.specs.Order.{if-deals}
 use Rattle.sharing.specs.Published.{Parts, no-parts, Deal, deal, dealt, deal-bits, open-bits, total, share, add-parts, flip-parts, mul-parts, gate-parts, left, right, product-of, gate-deal, ins-parts, parts, out-parts, ins-bits, gates-bits, sent-bits}
 use Rattle.sharing.specs.Steps.{Pair, Wire, no-wire, hold, kept, to-next, to-prev, delivered, in-wire, add-pair, add-wire, flip, local, deals, delivered3, mix, mul-wire, gate-wire, gate-delivered, unlike, objecting, copies, six, opened}
 use Rattle.sharing.specs.Run.{ins-after, after, ins-delivered, gates-delivered, output, out-delivered, copies-at, objects, opens-delivered, opened-at, outputs}
-use Rattle.sharing.proofs.Group.{Group, sums, assoc, comm, left-comm, turn}
+use Rattle.sharing.proofs.Group.{Group, Laws, sums, assoc, comm, left-comm, turn}
 use Rattle.sharing.proofs.Parts.{map-snoc, AllDraws, Each, parts-ok, total-at}
 
 pub look-hold : (ps : List Parts) (w : ℕ) → getD (map hold ps) w no-wire ≡ hold (getD ps w no-parts)
@@ -32,7 +32,8 @@ unlike-same : (a n : ℕ) → unlike (a, a) n ≡ 0
 unlike-same a n = rw (eq-eqb a a refl)
 
 module _ (G : Group) where
-  open Group G using (ops as R, Ok, ok-zero, ok-add, ok-sub, add-zero, add-assoc)
+  open Group G using (ops as R)
+  open Laws (G .laws) using (Ok, ok-zero, ok-add, ok-sub, add-zero, add-assoc)
   open Ops R using (add, sub, mul)
 
   module _ (x y z : ℕ) (hy : Ok y) (hz : Ok z) where

@@ -1,5 +1,5 @@
 -- A group with a product, over the numbers, and what follows from its laws.
---     Group          the operations, the numbers that stand for themselves (Ok), and the laws
+--     Laws           the numbers that stand for themselves (Ok), and the laws;  Group: operations with their laws
 --     nine           all nine products of three parts by three occur once
 --     deal-sum       a value shared and added up again
 --     move           a value and its first draw move together, and the dealer's own part stays
@@ -8,26 +8,31 @@
 --     Closed         a set of numbers that no operation leaves (at bits: 0 and 1)
 -- A product need not commute and has no one; only NOT adds the number 1. Ok is asked where a sum with 0, or a difference and a sum, must
 -- give back the number they began with. Assumes nothing.
-use mathlib.Core.Path.{_≡_, refl, sym, ap, ap₂, _∙_}
+use mathlib.Core.Path.{_≡_, sym, ap, _∙_}
 use Prim.Native.Nat.{ℕ}
 use Rattle.sharing.specs.Ops.{Ops}
 
-pub record Group : Type 1 where
-  pub ops : Ops
+-- the laws of operations that are given
+pub record Laws (R : Ops) : Type 1 where
   pub Ok : ℕ → Type 0
   pub ok-zero : Ok 0
-  pub add-zero : (a : ℕ) → Ok a → ops .add a 0 ≡ a
-  pub ok-add : (a b : ℕ) → Ok (ops .add a b)
-  pub ok-sub : (a b : ℕ) → Ok (ops .sub a b)
-  pub add-assoc : (a b c : ℕ) → ops .add (ops .add a b) c ≡ ops .add a (ops .add b c)
-  pub add-comm : (a b : ℕ) → ops .add a b ≡ ops .add b a
-  pub mul-add : (a b c : ℕ) → ops .mul a (ops .add b c) ≡ ops .add (ops .mul a b) (ops .mul a c)
-  pub add-mul : (a b c : ℕ) → ops .mul (ops .add a b) c ≡ ops .add (ops .mul a c) (ops .mul b c)
-  pub sub-add : (a b : ℕ) → Ok a → ops .add (ops .sub a b) b ≡ a
-  pub add-sub : (a b : ℕ) → Ok a → ops .sub (ops .add a b) b ≡ a
+  pub add-zero : (a : ℕ) → Ok a → R .add a 0 ≡ a
+  pub ok-add : (a b : ℕ) → Ok (R .add a b)
+  pub ok-sub : (a b : ℕ) → Ok (R .sub a b)
+  pub add-assoc : (a b c : ℕ) → R .add (R .add a b) c ≡ R .add a (R .add b c)
+  pub add-comm : (a b : ℕ) → R .add a b ≡ R .add b a
+  pub mul-add : (a b c : ℕ) → R .mul a (R .add b c) ≡ R .add (R .mul a b) (R .mul a c)
+  pub add-mul : (a b c : ℕ) → R .mul (R .add a b) c ≡ R .add (R .mul a c) (R .mul b c)
+  pub sub-add : (a b : ℕ) → Ok a → R .add (R .sub a b) b ≡ a
+  pub add-sub : (a b : ℕ) → Ok a → R .sub (R .add a b) b ≡ a
+
+pub record Group : Type 1 where
+  pub ops : Ops
+  pub laws : Laws ops
 
 module _ (G : Group) where
-  open Group G using (ops as R, Ok, ok-zero, ok-add, ok-sub, add-zero, add-assoc, add-comm, mul-add, add-mul, sub-add, add-sub)
+  open Group G using (ops as R)
+  open Laws (G .laws) using (Ok, ok-zero, ok-add, ok-sub, add-zero, add-assoc, add-comm, mul-add, add-mul, sub-add, add-sub)
   open Ops R using (add, sub, mul)
 
   pub assoc : (a b c : ℕ) → add (add a b) c ≡ add a (add b c)
@@ -85,8 +90,7 @@ module _ (G : Group) where
       same = sym (sub-add (sub v a) b (ok-sub _ _)) ∙ ap (λ (z : ℕ). add z b) e ∙ sub-add (sub v a′) b (ok-sub _ _)
 
 -- a set of numbers that holds 0 and 1 and that no operation leaves
-pub record Closed (R : Ops) : Type 1 where
-  pub In : ℕ → Type 0
+pub record Closed (R : Ops) (In : ℕ → Type 0) : Type 0 where
   pub in-zero : In 0
   pub in-one : In 1
   pub in-add : (a b : ℕ) → In a → In b → In (R .add a b)

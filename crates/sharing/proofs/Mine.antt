@@ -6,18 +6,17 @@
 --     mine-same                       which do not tell the second inputs from the first
 -- Assumes nothing.
 use mathlib.Core.Path.{_≡_, refl, sym, ap, ap₂, _∙_}
-use mathlib.Core.Bool.{cond}
 use mathlib.Core.List.{List, [], _∷_, _++_, map}
 use Prim.Native.Nat.{ℕ, zero, suc}
 use lib.ListN.{getD, List·getD-map}
 use Rattle.sharing.specs.Ops.{Ops}
-use Rattle.sharing.specs.Sites.{Site, s1, s2, s3, next, prev, Trio, of, is}
+use Rattle.sharing.specs.Sites.{Site, s1, s2, s3, next, prev, of, is}
 use Rattle.sharing.specs.Circuit.{Gate, XOR, AND, OR, NOT, Circuit, Draws}
 use Rattle.sharing.specs.Values.{values}
 use Rattle.sharing.specs.Published.{Parts, no-parts, total, share, add-parts, flip-parts, three, mul-parts, gate-parts, ins-parts, parts}
 use Rattle.sharing.specs.Steps.{Pair, add-pair, local}
 use Rattle.sharing.specs.Retape.{mine, rest, next-product, flip-mine, next-shares, shift, retape}
-use Rattle.sharing.proofs.Group.{Group, sums, assoc, comm, left-comm, turn, move, third-part}
+use Rattle.sharing.proofs.Group.{Group, Laws, turn, move, third-part}
 use Rattle.sharing.proofs.SiteLaws.{Seen, itself, behind, before, seen, by-site}
 use Rattle.sharing.proofs.Parts.{map-snoc, value, look, flip-total, AllDraws, Each, AllParts, flip-ok, parts-ok}
 
@@ -25,7 +24,8 @@ pub both : {a b a′ b′ : ℕ} → a ≡ a′ → b ≡ b′ → _≡_ {A = Pa
 both p q = λ i. (p i, q i)
 
 module _ (G : Group) where
-  open Group G using (ops as R, Ok, ok-zero, ok-add, ok-sub)
+  open Group G using (ops as R)
+  open Laws (G .laws) using (Ok, ok-zero, ok-add, ok-sub)
   open Ops R using (add, sub, mul)
 
   module _ (d δ : ℕ) where

@@ -124,7 +124,7 @@ module _ (R : Ops) (s : Site) (C : Circuit) (x : ℕ → ℕ) (T : Draws) where
       pick-append s (routes C o) _ (sent-bits R C x T o) _ (routes-length C o ∙ sym (bits-length o)) ∙ ap₂ _++_ (pick-all o) (pick-open s _)
 
 -- on a clean line, what of the run's own bits reaches s
-pub reaches : (G : Group) (s : Site) (C : Circuit) (x : ℕ → ℕ) (T : Draws) (ok : AllDraws (G .Ok) T) (n : ℕ)
+pub reaches : (G : Group) (s : Site) (C : Circuit) (x : ℕ → ℕ) (T : Draws) (ok : AllDraws (G .laws .Ok) T) (n : ℕ)
     → pick s (routes C n) (opens-delivered (G .ops) C x T no-errors n) ≡ all-got (G .ops) s C x T n
 reaches G s C x T ok n = ap (pick s (routes C n)) (clean-sent G C x T ok n) ∙ pick-all (G .ops) s C x T n
 

@@ -8,11 +8,11 @@ use mathlib.Core.List.{List, [], _∷_, _++_, map}
 use Prim.Native.Nat.{ℕ, zero, suc}
 use lib.ListN.{getD, List·getD-map}
 use Rattle.sharing.specs.Ops.{Ops}
-use Rattle.sharing.specs.Sites.{Site, s1, s2, s3, Trio}
+use Rattle.sharing.specs.Sites.{Site, s1, s2, s3}
 use Rattle.sharing.specs.Circuit.{Gate, XOR, AND, OR, NOT, Circuit, Draws}
 use Rattle.sharing.specs.Values.{value-gate, value-inputs, values}
 use Rattle.sharing.specs.Published.{Parts, no-parts, total, share, add-parts, flip-parts, three, mul-parts, gate-parts, ins-parts, parts}
-use Rattle.sharing.proofs.Group.{Group, Closed, nine, sums, assoc, comm, left-comm, turn, deal-sum}
+use Rattle.sharing.proofs.Group.{Group, Laws, Closed, nine, sums, turn, deal-sum}
 
 pub map-snoc : {A B : Type 0} (f : A → B) (l : List A) (a : A) → map f (l ++ (a ∷ [])) ≡ map f l ++ (f a ∷ [])
 map-snoc f [] a = refl
@@ -33,7 +33,8 @@ pub record AllDraws (P : ℕ → Type 0) (T : Draws) : Type 0 where
   pub of-g2 : (g : ℕ) (s : Site) → P (T .g2 g s)
 
 module _ (G : Group) where
-  open Group G using (ops as R, Ok, ok-zero, ok-add, ok-sub, add-zero)
+  open Group G using (ops as R)
+  open Laws (G .laws) using (Ok, ok-zero, ok-add, ok-sub, add-zero)
   open Ops R using (add, sub, mul)
 
   share-total : (s : Site) (v a b : ℕ) → Ok v → total R (share R s v a b) ≡ v
@@ -108,7 +109,8 @@ module _ (P : ℕ → Type 0) where
   share-each R s3 v a b hr ha hb = record { in1 = ha; in2 = hb; in3 = hr }
 
 module _ (G : Group) where
-  open Group G using (ops as R, Ok, ok-zero, ok-add, ok-sub)
+  open Group G using (ops as R)
+  open Laws (G .laws) using (Ok, ok-zero, ok-add, ok-sub)
 
   pub flip-ok : (P : Parts) → Each Ok P → Each Ok (flip-parts R P)
   flip-ok P h = record { in1 = ok-add _ _; in2 = h .in2; in3 = h .in3 }
@@ -141,8 +143,8 @@ module _ (G : Group) where
         snoc-all (Each Ok) no-parts none-ok (parts R C x T g) _ (parts-ok g) (gate-ok (T .g1 g) (T .g2 g) (C .gate g) _ (parts-ok g)) w
 
 -- the same for a closed set, which must hold the inputs too
-module _ (R : Ops) (K : Closed R) where
-  open Closed K using (In, in-zero, in-one, in-add, in-sub, in-mul)
+module _ (R : Ops) {In : ℕ → Type 0} (K : Closed R In) where
+  open Closed K using (in-zero, in-one, in-add, in-sub, in-mul)
 
   pub three-in : (a b c d : ℕ) → In a → In b → In c → In d → In (three R a b c d)
   three-in a b c d ha hb hc hd = in-add _ _ (in-add _ _ (in-mul _ _ ha hc) (in-mul _ _ ha hd)) (in-mul _ _ hb hc)

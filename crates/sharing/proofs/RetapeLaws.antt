@@ -21,7 +21,7 @@ use Rattle.sharing.specs.Steps.{Pair}
 use Rattle.sharing.specs.Tapes.{tapes-sum, read, written}
 use Rattle.sharing.specs.View.{view-from}
 use Rattle.sharing.specs.Retape.{mine, next-product, flip-mine, next-shares, shift, retape, new-tapes}
-use Rattle.sharing.proofs.Group.{Group, Closed}
+use Rattle.sharing.proofs.Group.{Group, Laws, Closed}
 use Rattle.sharing.proofs.Parts.{AllDraws, Each, parts-in, values-in, three-in}
 use Rattle.sharing.proofs.Mine.{retape-ok, look-mine, mine-same}
 use Rattle.sharing.proofs.Same.{view-same}
@@ -32,7 +32,8 @@ use Rattle.sharing.proofs.Seen.{seen-view}
 use Rattle.sharing.proofs.ViewLaws.{view-is, Shown, shown}
 
 module _ (G : Group) (s : Site) (C : Circuit) where
-  open Group G using (ops as R, Ok, ok-zero)
+  open Group G using (ops as R)
+  open Laws (G .laws) using (Ok, ok-zero)
 
   pub record Kept (x y : ℕ → ℕ) : Type 0 where
     pub ok-x : (i : ℕ) → Ok (x i)
@@ -108,8 +109,8 @@ module _ (G : Group) (s : Site) (C : Circuit) where
       shown G s C x y (read C t) (read C u) okx oky (sym (view-is G s C y u (hu .long) (hu .good)) ∙ e ∙ view-is G s C x t (ht .long) (ht .good))
 
 -- the new tapes stay in a closed set
-module _ (R : Ops) (K : Closed R) where
-  open Closed K using (In, in-zero, in-one, in-add, in-sub, in-mul)
+module _ (R : Ops) {In : ℕ → Type 0} (K : Closed R In) where
+  open Closed K using (in-zero, in-one, in-add, in-sub, in-mul)
 
   pub record In2 (p : Pair) : Type 0 where
     pub in-first : In (p .0)
@@ -161,9 +162,9 @@ module _ (R : Ops) (K : Closed R) where
       of-g2 = hT .of-g2;
     }
 
-pub new-in : (G : Group) (K : Closed (G .ops)) (s : Site) (C : Circuit) (x y : ℕ → ℕ) (t : List ℕ)
-    → ((i : ℕ) → K .In (x i)) → ((i : ℕ) → K .In (y i)) → AllIn (K .In) (K .in-zero) t → AllIn (K .In) (K .in-zero) (new-tapes (G .ops) s C x y t)
+pub new-in : (G : Group) {In : ℕ → Type 0} (K : Closed (G .ops) In) (s : Site) (C : Circuit) (x y : ℕ → ℕ) (t : List ℕ)
+    → ((i : ℕ) → In (x i)) → ((i : ℕ) → In (y i)) → AllIn In (K .in-zero) t → AllIn In (K .in-zero) (new-tapes (G .ops) s C x y t)
 unfolding new-tapes
-new-in G K s C x y t hx hy ht =
-    written-all (K .In) (K .in-zero) C (retape (G .ops) s C x y (read C t))
-    (retape-in (G .ops) K s C x y (read C t) hx hy (draws-all (K .In) (K .in-zero) C t ht) (look-mine G s))
+new-in G {In} K s C x y t hx hy ht =
+    written-all In (K .in-zero) C (retape (G .ops) s C x y (read C t))
+    (retape-in (G .ops) K s C x y (read C t) hx hy (draws-all In (K .in-zero) C t ht) (look-mine G s))

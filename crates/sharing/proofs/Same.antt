@@ -17,7 +17,7 @@ use Rattle.sharing.specs.Tapes.{ins-tape, tape}
 use Rattle.sharing.specs.View.{own-ins}
 use Rattle.sharing.specs.Retape.{mine, rest, next-product, flip-mine, next-shares, shift, retape}
 use Rattle.sharing.proofs.SiteLaws.{Seen, itself, behind, before, seen, own-itself, own-behind, own-before}
-use Rattle.sharing.proofs.Group.{Group, move, rest-inj}
+use Rattle.sharing.proofs.Group.{Group, Laws, move, rest-inj}
 use Rattle.sharing.proofs.Seen.{got, got-itself, got-behind, got-before, to-site, to-site3, ins-got, gates-got, all-got, seen-totals, seen-view}
 use Rattle.sharing.proofs.Parts.{map-snoc, value, look, flip-total, AllDraws, Each, AllParts, flip-ok, parts-ok}
 use Rattle.sharing.proofs.Mine.{both, share-itself, share-behind, share-before, last-part, look-mine, mine-flip, shift-itself, shift-behind, shift-before, input-same, retape-ok, mine-same}
@@ -29,7 +29,8 @@ own-same s t behind l l′ e = own-behind s l ∙ sym (own-behind s l′)
 own-same s t before l l′ e = own-before s l ∙ sym (own-before s l′)
 
 module _ (G : Group) where
-  open Group G using (ops as R, Ok, ok-zero, ok-add, ok-sub)
+  open Group G using (ops as R)
+  open Laws (G .laws) using (Ok, ok-zero, ok-add, ok-sub)
   open Ops R using (add, sub, mul)
 
   -- the next site's product, by s's pairs and the values

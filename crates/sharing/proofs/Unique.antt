@@ -18,7 +18,7 @@ use Rattle.sharing.specs.Tapes.{ins-tape, tape}
 use Rattle.sharing.specs.View.{own-ins}
 use Rattle.sharing.specs.Retape.{mine, rest, next-product, flip-mine, next-shares, shift, retape}
 use Rattle.sharing.proofs.SiteLaws.{Seen, itself, behind, before, seen, own-itself, own-behind, own-before}
-use Rattle.sharing.proofs.Group.{Group, move, rest-inj}
+use Rattle.sharing.proofs.Group.{Group, Laws, move, rest-inj}
 use Rattle.sharing.proofs.Seen.{got, got-itself, got-behind, got-before, to-site, to-site3, ins-got, gates-got, all-got, seen-totals, seen-view}
 use Rattle.sharing.proofs.Parts.{AllDraws}
 use Rattle.sharing.proofs.Mine.{share-itself, share-behind, share-before}
@@ -59,7 +59,8 @@ deals-length (OR i j) l l′ e = e
 deals-length (NOT i) l l′ e = refl
 
 module _ (G : Group) where
-  open Group G using (ops as R, Ok, ok-zero, ok-add, ok-sub)
+  open Group G using (ops as R)
+  open Laws (G .laws) using (Ok, ok-zero, ok-add, ok-sub)
   open Ops R using (add, sub, mul)
 
   -- one deal: what s sees of it, and the value, tell the draws

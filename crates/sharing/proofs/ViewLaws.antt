@@ -21,7 +21,7 @@ use Rattle.sharing.specs.Order.{routes, pick}
 use Rattle.sharing.specs.Run.{opened-at, opens-delivered, made, transcript}
 use Rattle.sharing.specs.Tapes.{tape-length, tapes-sum, cut, read, tape}
 use Rattle.sharing.specs.View.{own-ins, seen-outs, view-from}
-use Rattle.sharing.proofs.Group.{Group}
+use Rattle.sharing.proofs.Group.{Group, Laws}
 use Rattle.sharing.proofs.SiteLaws.{Seen, itself, behind, before, seen, is-itself, is-behind, is-before, own-itself, own-behind, own-before}
 use Rattle.sharing.proofs.Parts.{AllDraws, total-at}
 use Rattle.sharing.proofs.Clean.{no-objection, opened-total, thrice}
@@ -37,7 +37,8 @@ of-thrice v s2 = refl
 of-thrice v s3 = refl
 
 module _ (G : Group) (s : Site) (C : Circuit) (x : ℕ → ℕ) where
-  open Group G using (ops as R, Ok)
+  open Group G using (ops as R)
+  open Laws (G .laws) using (Ok)
 
   -- on a clean line the whole transcript is that of all openings
   pub clean-transcript : (T : Draws) → AllDraws Ok T → transcript R C x T no-errors ≡ opens-delivered R C x T no-errors (C .outs)
@@ -86,12 +87,13 @@ seen-length R s C x T =
     let l3 = length-append (own-ins s C x (C .ins) ++ tape C T s (C .gates) ++ all-got R s C x T (C .outs)) (seen-totals R s C x T (C .outs)) in
     omega arith
 
-pub view-length : (G : Group) (s : Site) (C : Circuit) (x : ℕ → ℕ) (t : List ℕ) → length t ≡ tapes-sum C → AllDraws (G .Ok) (read C t)
+pub view-length : (G : Group) (s : Site) (C : Circuit) (x : ℕ → ℕ) (t : List ℕ) → length t ≡ tapes-sum C → AllDraws (G .laws .Ok) (read C t)
     → length (view-from (G .ops) s C x t) ≡ 2 * C .ins + all-owned C s + 6 * all-ands C + 3 * C .outs
 view-length G s C x t h ok = ap length (view-is G s C x t h ok) ∙ seen-length (G .ops) s C x (read C t)
 
 module _ (G : Group) (s : Site) (C : Circuit) (x y : ℕ → ℕ) (T U : Draws) where
-  open Group G using (ops as R, Ok)
+  open Group G using (ops as R)
+  open Laws (G .laws) using (Ok)
 
   own-shown : (n : ℕ) → own-ins s C y n ≡ own-ins s C x n → (i : ℕ) → i < n → C .owner i ≡ s → y i ≡ x i
   unfolding own-ins

@@ -1,8 +1,8 @@
 -- The numbers that are shared, as far as a definition sees them: three operations.
 --     Ops     a sum, a difference and a product on numbers
 --     bits    xor, xor and and: "a secret bit is the exclusive or of three parts"
--- What the operations must satisfy is no definition but a law: proofs/Group.antt. Bits are the one instance so far; whatever else
--- has these three operations and those laws (sums and products that wrap, say) shares every definition and every law here.
+-- What the operations must satisfy is no definition but a law: proofs/Group.antt. Bits are the instance that runs; whatever else
+-- has these three operations and those laws (numbers modulo m: crates/modulo) shares every definition and every law here.
 use Prim.Native.Nat.{ℕ}
 use lib.Bits.{bitXor, bitAnd}
 

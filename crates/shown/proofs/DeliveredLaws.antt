@@ -1,12 +1,11 @@
 -- The delivered bits and the opened bits are the document's.
 --     seeing-kept     lengths that stay
---     outs-below      every output's wire is one of the store's
 --     held-out        what the three sites hold of an output, on a clean line
 --     copies-are      the delivered bits after the first k openings
 --     opened-are      the first k opened bits
 --     store-is, got-is    inputs, gates and openings: the store of a clean run, and every bit delivered to the site
 --     copies-ready    where the openings begin there is room for them
-use mathlib.Core.Path.{_≡_, refl, sym, ap, _∙_, subst}
+use mathlib.Core.Path.{_≡_, refl, sym, ap, _∙_}
 use mathlib.Core.List.{List, [], _∷_, _++_}
 use Prim.Native.Nat.{ℕ, zero, suc, _+_, _*_, _<_, _≤_}
 use native.Mathlib.Omega.{arith}
@@ -28,21 +27,20 @@ use Rattle.sharing.proofs.RunLaws.{after-length}
 use Rattle.sharing.proofs.Seen.{gates-got, all-got, seen-totals}
 use Rattle.sharing.proofs.StoreLaws.{fill-one, fill-all}
 use Rattle.sharing.proofs.ViewLaws.{totals-many}
-use Rattle.scope.specs.File.{circuit, output-at}
+use Rattle.scope.specs.File.{circuit}
 use Rattle.scope.specs.Calls.{at-wire}
 use Rattle.scope.proofs.RunCall.{bit-draws}
 use Rattle.scope.proofs.Limits.{ands-most}
 use Rattle.header.specs.declared.Counts.{Counts}
-use Rattle.circuit.specs.Checked.{Checked}
 use Rattle.messages.specs.Mirror.{two}
 use Rattle.steps.specs.Mirror.{held-at}
 use Rattle.messages.specs.declared.Two.{Two}
 use Rattle.messages.specs.declared.Held.{Held}
 use Rattle.engine.specs.Mirror.{St}
-use Rattle.link.specs.Link.{cut3, held-of}
+use Rattle.link.specs.Link.{held-of, Reads}
 use Rattle.link.proofs.FillLaws.{fill-two}
-use Rattle.link.proofs.OpensLaw.{held-law}
-use Rattle.link.proofs.PartLaws.{store-all, cut-ok}
+use Rattle.link.proofs.ReadLaws.{store-reads}
+use Rattle.link.proofs.StoredLaws.{all-stored}
 use Rattle.seen.specs.Mirror.{pair-of-site, put-two, gates-seen, ins-seen, state-seen, Seeing, Begun}
 use Rattle.brings.proofs.GatesLaws.{gates-reach, begun}
 use Rattle.circuit.specs.Loop.{up-to}
@@ -50,13 +48,6 @@ use Rattle.shown.specs.Mirror.{copies-of-site, opened-bit, copies-on, co
 
 pub seeing-kept : (f : List ℕ) (c : Counts) (s : Site) (t g st g′ st′ : ℕ) → g′ ≡ g → st′ ≡ st → Seeing f c s t g st → Seeing f c s t g′ st′
 seeing-kept f c s t g st g′ st′ p q d = record { checked = d .checked; lt = d .lt; lg = ap (λ (m : ℕ). m + 2 * all-owned (circuit f) s) p ∙ d .lg; ls = q ∙ d .ls }
-
--- every output's wire is one of the store's
-pub outs-below : (f : List ℕ) (c : Counts) → Checked f c → (k : ℕ) → k < circuit f .outs → circuit f .out k < c .inputs + c .gates
-outs-below f c d k h =
-    let o = d .opened in let u = o .outs-are in let n : ℕ = c .inputs + c .gates in
-    subst (λ (i : ℕ). output-at f i (circuit f .gates) k < n) (o .ins-are)
-    (subst (λ (g : ℕ). output-at f (c .inputs) g k < n) (o .gates-are) (d .outputs k (omega arith)))
 
 -- ---- one opening, of published parts
 copies-got : (s : Site) (P : Parts) → copies-of-site s (held-of (hold P)) ≡ two (of P (prev s)) (of P (prev s))
@@ -79,45 +70,44 @@ module _ (f : List ℕ) (x : ℕ → ℕ) (tapes : List ℕ) (s : Site) (n : ℕ
   abbrev T : Draws
   T = read C tapes
 
-  held-out : (k : ℕ) → C .out k < n → held-at n (C .out k) w ≡ held-of (hold (out-parts bits C x T k))
+  held-out : (k : ℕ) → Reads n w (C .out k) (hold (out-parts bits C x T k))
   unfolding output
-  held-out k h =
-      ap (held-at n (C .out k)) ew ∙ held-law n (after bits C x T no-errors (C .gates)) (after-length bits C x T no-errors (C .gates) ∙ hn) (C .out k) h
+  held-out k =
+      ap (held-at n (C .out k)) ew ∙ store-reads n (after bits C x T no-errors (C .gates)) (after-length bits C x T no-errors (C .gates) ∙ hn) (C .out k)
       ∙ ap held-of (output-held bit-group C x T (bit-draws T) k)
 
   abbrev gots : ℕ → List ℕ
   gots k = all-got bits s C x T k
 
-  pub copies-are : (old : List ℕ) (at : ℕ) → length (gots 0) ≡ at → (k : ℕ) → ((j : ℕ) → j < k → C .out j < n) → at + 2 * k ≤ length old
+  pub copies-are : (old : List ℕ) (at : ℕ) → length (gots 0) ≡ at → (k : ℕ) → at + 2 * k ≤ length old
       → copies-all s f w n at (fill old (gots 0)) k ≡ fill old (gots k)
   unfolding up-to copies-on put-two all-got
-  copies-are old at e zero h r = refl
-  copies-are old at e (suc k) h r =
+  copies-are old at e zero r = refl
+  copies-are old at e (suc k) r =
       let l = got-length bits s C x T k in let l0 = got-length bits s C x T 0 in
       let p : ℕ = of (out-parts bits C x T k) (prev s) in
-      ap (copies-on s f w n at k) (copies-are old at e k (λ j q. h j (omega arith)) (omega arith))
-      ∙ ap (λ (z : Held). put-two (at + 2 * k) (copies-of-site s z) (fill old (gots k))) (held-out k (h k (omega arith)))
+      ap (copies-on s f w n at k) (copies-are old at e k (omega arith))
+      ∙ ap (λ (z : Held). put-two (at + 2 * k) (copies-of-site s z) (fill old (gots k))) (held-out k)
       ∙ ap (λ (z : Two). put-two (at + 2 * k) z (fill old (gots k))) (copies-got s (out-parts bits C x T k))
       ∙ fill-two old (gots k) (at + 2 * k) p p (omega arith) (omega arith)
 
   abbrev tots : ℕ → List ℕ
   tots k = seen-totals bits s C x T k
 
-  opened-one : (old : List ℕ) (k : ℕ) → C .out k < n → k < length old → opened-on s f w n k (fill old (tots k)) ≡ fill old (tots k ++ (total bits (out-parts bits C x T k) ∷ []))
+  opened-one : (old : List ℕ) (k : ℕ) → k < length old → opened-on s f w n k (fill old (tots k)) ≡ fill old (tots k ++ (total bits (out-parts bits C x T k) ∷ []))
   unfolding opened-on
-  opened-one old k h r =
-      let v = ap (opened-bit s) (held-out k h) ∙ bit-total s (out-parts bits C x T k) in
+  opened-one old k r =
+      let v = ap (opened-bit s) (held-out k) ∙ bit-total s (out-parts bits C x T k) in
       fill-one old (tots k) k (opened-bit s (held-at n (C .out k) w)) (totals-many bits s C x T k) r ∙ ap (λ (z : ℕ). fill old (tots k ++ (z ∷ []))) v
 
-  pub opened-are : (old : List ℕ) (k : ℕ) → ((j : ℕ) → j < k → C .out j < n) → k ≤ length old → opened-all s f w n old k ≡ fill old (seen-totals bits s C x T k)
+  pub opened-are : (old : List ℕ) (k : ℕ) → k ≤ length old → opened-all s f w n old k ≡ fill old (seen-totals bits s C x T k)
   unfolding up-to seen-totals fill
-  opened-are old zero h r = refl
-  opened-are old (suc k) h r =
-      ap (opened-on s f w n k) (opened-are old k (λ j q. h j (omega arith)) (omega arith)) ∙ opened-one old k (h k (omega arith)) r
+  opened-are old zero r = refl
+  opened-are old (suc k) r = ap (opened-on s f w n k) (opened-are old k (omega arith)) ∙ opened-one old k r
 
 -- ---- the whole
 module _ (f xs tapes : List ℕ) (s : Site) (old got : List ℕ) (c : Counts) (d : Seeing f c s (length tapes) (length got) (length old)) (y z : St)
-    (ey : y ≡ ins-seen s (circuit f) (at-wire xs) (read (circuit f) tapes) (cut3 (c .inputs + c .gates) old) got (c .inputs))
+    (ey : y ≡ ins-seen s (circuit f) (at-wire xs) (read (circuit f) tapes) (c .inputs + c .gates) old got (c .inputs))
     (ez : z ≡ gates-seen s f tapes (c .inputs) (c .inputs + c .gates) y (c .gates)) where
   abbrev X : ℕ → ℕ
   X = at-wire xs
@@ -131,20 +121,18 @@ module _ (f xs tapes : List ℕ) (s : Site) (old got : List ℕ) (c : Counts) (d
   abbrev b : Begun f s tapes m (length got) y
   b = begun f xs tapes s old got c (length got) y d refl ey
 
-  reached : z ≡ state-seen s (circuit f) X D (cut3 m old) got (circuit f .gates)
+  reached : z ≡ state-seen s (circuit f) X D m old got (circuit f .gates)
   unfolding begun
   reached =
       ez ∙ gates-reach f tapes s (length got) (length old) c d y b (c .gates) (le-refl (c .gates))
-      ∙ ap (state-seen s (circuit f) X D (cut3 m old) got) (d .checked .opened .gates-are)
+      ∙ ap (state-seen s (circuit f) X D m old got) (d .checked .opened .gates-are)
 
   many : circuit f .ins + circuit f .gates ≡ m
   many = sym (λ i. d .checked .opened .ins-are i + d .checked .opened .gates-are i)
 
   pub store-is : z .store ≡ store (after bits (circuit f) X D no-errors (circuit f .gates))
   unfolding state-seen
-  store-is =
-      ap (λ (v : St). v .store) reached
-      ∙ store-all m (cut3 m old) (cut-ok m old (d .ls)) (after bits (circuit f) X D no-errors (circuit f .gates)) (after-length bits (circuit f) X D no-errors (circuit f .gates) ∙ many)
+  store-is = ap (λ (v : St). v .store) reached ∙ all-stored (circuit f) X D no-errors m many old (d .ls)
 
   at-is : length (gates-got bits s (circuit f) X D (circuit f .gates)) ≡ z .pos .at
   unfolding state-seen
@@ -165,5 +153,5 @@ module _ (f xs tapes : List ℕ) (s : Site) (old got : List ℕ) (c : Counts) (d
       let l = got-length bits s (circuit f) X D (circuit f .outs) in let g = d .lg in
       e ∙ ap (copies-all s f (z .store) m (z .pos .at) (z .tr)) o
       ∙ ap (λ (v : List ℕ). copies-all s f (z .store) m (z .pos .at) v (circuit f .outs)) (ap (λ (v : St). v .tr) reached)
-      ∙ copies-are f X tapes s m many (z .store) store-is got (z .pos .at) at-is (circuit f .outs) (outs-below f c (d .checked)) (omega arith)
+      ∙ copies-are f X tapes s m many (z .store) store-is got (z .pos .at) at-is (circuit f .outs) (omega arith)
       ∙ fill-all got (all-seen s f xs tapes) (omega arith)

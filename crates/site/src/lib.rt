@@ -37,7 +37,7 @@ pub fn pair_of(part: &[u8], w: usize) -> Two
 // XOR at one site: "each held part, xored".
 pub fn add_step(part: &mut [u8], a: usize, b: usize, w: usize)
     requires { ⌜ 2 * w + 1 < length (now part) ⌝ }
-    requires { ⌜ (a < w) × (b < w) ⌝ }
+    requires { ⌜ (2 * a + 1 < length (now part)) × (2 * b + 1 < length (now part)) ⌝ }
     ensures { λ _. ⌜ now (part .exit) ≡ add-at bits a b w (now (part .entry)) ⌝ }
 {
     let p = pair_of(part, a);
@@ -48,7 +48,7 @@ pub fn add_step(part: &mut [u8], a: usize, b: usize, w: usize)
 // NOT at one site: f and g say which of its two parts is part 1.
 pub fn flip_step(part: &mut [u8], a: usize, w: usize, f: u8, g: u8)
     requires { ⌜ 2 * w + 1 < length (now part) ⌝ }
-    requires { ⌜ a < w ⌝ }
+    requires { ⌜ 2 * a + 1 < length (now part) ⌝ }
     ensures { λ _. ⌜ now (part .exit) ≡ flip-at bits a w (f, g) (now (part .entry)) ⌝ }
 {
     let x = part[2 * a] ^ f;

@@ -15,7 +15,8 @@ use borrow.Author.Tests.{lt-ltb, ltb-true, le-leb, eq-eqb, ne-eqb}
 use borrow.Author.Count.{below-none, below-more}
 use Rattle.sharing.specs.First.{first}
 use Rattle.sharing.proofs.FirstLaws.{Clear, first-at, first-none, first-hit, first-before, first-clear}
-use Rattle.scope.specs.Checks.{fault, bits-row}
+use Rattle.scope.specs.Checks.{fault}
+use Rattle.scope.specs.AtBits.{bits-row}
 use Rattle.scope.proofs.RowLaws.{bits-clear}
 use Rattle.faults.specs.Mirror.{above}
 use Rattle.slices.specs.Mirror.{Under}

@@ -14,57 +14,53 @@ use lib.ListN.{length, getD}
 use lib.Dec.{eqb}
 use borrow.Author.Tests.{not-true, not-false}
 use Rattle.sharing.specs.First.{first}
-use Rattle.scope.specs.Checks.{Given, Row, one-to-three, tested, bits-row, row-site, row, refusal-table, fault, accepted, refuses, verdict}
+use Rattle.scope.specs.Checks.{Refusal, refusal, one-to-three, tested, row-buffer, row-site, fault, accepted, refuses, verdict}
+use Rattle.scope.specs.AtBits.{bits-row}
 use Rattle.scope.proofs.Refusals.{row-refuses, row-passes}
 use Rattle.faults.specs.Mirror.{wrong-size}
 
-pub nothing : (g : Given) → accepted ≡ verdict g []
+pub nothing : accepted ≡ verdict []
 unfolding verdict
-nothing g = refl
+nothing = refl
 
-module _ (g : Given) (all : List ℕ) where
-  abbrev pub Left : List ℕ → Type 0
-  Left ms = verdict g ms ≡ verdict g all
+module _ (all : List Refusal) where
+  abbrev pub Left : List Refusal → Type 0
+  Left cs = verdict cs ≡ verdict all
 
-  module _ (n : ℕ) (ms l : List ℕ) (want k : ℕ) (r : row g n ≡ bits-row l want) (e : k ≡ fault (bits-row l want)) (p : Left (n ∷ ms)) where
-    pub bits-stop : k ≤ want → refuses n k ≡ verdict g all
-    bits-stop h = row-refuses g n ms _ k r e (omega arith) ∙ p
+  module _ (n : ℕ) (cs : List Refusal) (l : List ℕ) (have want k : ℕ) (w : have ≡ want) (e : k ≡ fault (bits-row l have)) (p : Left (refusal n (bits-row l want) ∷ cs)) where
+    faulty : k ≡ fault (bits-row l want)
+    faulty = e ∙ ap (λ (z : ℕ). fault (bits-row l z)) w
 
-    pub bits-go : want < k → Left ms
-    bits-go h = row-passes g n ms _ k r e (omega arith) ∙ p
+    pub bits-stop : k ≤ have → refuses n k ≡ verdict all
+    bits-stop h = row-refuses n cs _ k faulty (omega (arith, w)) ∙ p
 
-  module _ (ms wants : List ℕ) (k : ℕ) (w : wants ≡ g .wanted) (e : k ≡ first (wrong-size (g .sizes) wants) (length wants)) (p : Left (10 ∷ ms)) where
-    abbrev size-row : List ℕ → Row
-    size-row l = record { span = length l; bad = λ i. not (eqb (getD (g .sizes) i 0) (getD l i 0)) }
+    pub bits-go : have < k → Left cs
+    bits-go h = row-passes n cs _ k faulty (omega (arith, w)) ∙ p
 
-    row-10 : row g 10 ≡ size-row wants
-    unfolding row refusal-table
-    row-10 = λ i. size-row (sym w i)
-
-    sized : k ≡ fault (size-row wants)
+  module _ (cs : List Refusal) (lengths have wanted : List ℕ) (k : ℕ) (w : have ≡ wanted) (e : k ≡ first (wrong-size lengths have) (length have)) (p : Left (refusal 10 (row-buffer lengths wanted) ∷ cs)) where
+    sized : k ≡ fault (row-buffer lengths wanted)
     unfolding fault wrong-size
-    sized = e
+    sized = e ∙ ap (λ (z : List ℕ). first (λ i. not (eqb (getD lengths i 0) (getD z i 0))) (length z)) w
 
-    pub sizes-stop : k < length wants → refuses 10 k ≡ verdict g all
-    sizes-stop h = row-refuses g 10 ms _ k row-10 sized h ∙ p
+    as-long : length have ≡ length wanted
+    as-long = ap length w
 
-    pub sizes-go : length wants ≤ k → Left ms
-    sizes-go h = row-passes g 10 ms _ k row-10 sized h ∙ p
+    pub sizes-stop : k < length have → refuses 10 k ≡ verdict all
+    sizes-stop h = row-refuses 10 cs _ k sized (omega (arith, as-long)) ∙ p
 
-  module _ (ms : List ℕ) (b : Bool) (e : b ≡ one-to-three (g .site)) (p : Left (11 ∷ ms)) where
-    row-11 : row g 11 ≡ row-site g
-    unfolding row refusal-table
-    row-11 = refl
+    pub sizes-go : length have ≤ k → Left cs
+    sizes-go h = row-passes 10 cs _ k sized (omega (arith, as-long)) ∙ p
 
+  module _ (cs : List Refusal) (s : ℕ) (b : Bool) (e : b ≡ one-to-three s) (p : Left (refusal 11 (row-site s) ∷ cs)) where
     -- the test's value tells the fault
-    site-fault : (t : Bool) → b ≡ t → fault (row-site g) ≡ first (tested ((0, not t) ∷ [])) 1
+    site-fault : (t : Bool) → b ≡ t → fault (row-site s) ≡ first (tested ((0, not t) ∷ [])) 1
     unfolding fault
     site-fault t q = ap (λ (z : Bool). first (tested ((0, not z) ∷ [])) 1) (sym e ∙ q)
 
-    pub site-stop : not b ≡ true → refuses 11 0 ≡ verdict g all
+    pub site-stop : not b ≡ true → refuses 11 0 ≡ verdict all
     unfolding first tested
-    site-stop h = row-refuses g 11 ms _ 0 row-11 (sym (site-fault false (not-true b h))) (omega arith) ∙ p
+    site-stop h = row-refuses 11 cs _ 0 (sym (site-fault false (not-true b h))) (omega arith) ∙ p
 
-    pub site-go : not b ≡ false → Left ms
+    pub site-go : not b ≡ false → Left cs
     unfolding first tested
-    site-go h = row-passes g 11 ms _ 1 row-11 (sym (site-fault true (not-false b h))) (omega arith) ∙ p
+    site-go h = row-passes 11 cs _ 1 (sym (site-fault true (not-false b h))) (omega arith) ∙ p

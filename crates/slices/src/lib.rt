@@ -3,7 +3,8 @@ ghost use mathlib.Core.Path.{_≡_};
 ghost use Prim.Native.Nat.{_+_, _<_, _≤_};
 ghost use lib.ListN.{length};
 ghost use Rattle.sharing.specs.First.{first};
-ghost use Rattle.scope.specs.Checks.{fault, bits-row};
+ghost use Rattle.scope.specs.Checks.{fault};
+ghost use Rattle.scope.specs.AtBits.{bits-row};
 ghost use Rattle.faults.specs.Mirror.{above, wrong-size};
 ghost use Rattle.slices.specs.Mirror.{Under, job-fault-of};
 

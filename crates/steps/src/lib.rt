@@ -61,7 +61,7 @@ pub fn deliver12(line: &[u8], room: &mut [u8], at: usize, m: Twelve) -> Twelve
 // The three sites' steps. Each is lent its own 2W bytes of the store and sees nothing else.
 pub fn add_sites(store: &mut [u8], n: usize, a: usize, b: usize, w: usize)
     requires { ⌜ (length (now store) ≡ 6 * n) × (n ≤ 4096) ⌝ }
-    requires { ⌜ (a < w) × (b < w) × (w < n) ⌝ }
+    requires { ⌜ (a < n) × (b < n) × (w < n) ⌝ }
     ensures { λ _. ⌜ now (store .exit) ≡ add-gate bits n a b w (now (store .entry)) ⌝ }
 {
     site::add_step(&mut store[0..2 * n], a, b, w);
@@ -71,7 +71,7 @@ pub fn add_sites(store: &mut [u8], n: usize, a: usize, b: usize, w: usize)
 
 pub fn not_sites(store: &mut [u8], n: usize, a: usize, w: usize)
     requires { ⌜ (length (now store) ≡ 6 * n) × (n ≤ 4096) ⌝ }
-    requires { ⌜ (a < w) × (w < n) ⌝ }
+    requires { ⌜ (a < n) × (w < n) ⌝ }
     ensures { λ _. ⌜ now (store .exit) ≡ not-gate bits n a w (now (store .entry)) ⌝ }
 {
     site::flip_step(&mut store[0..2 * n], a, w, 1, 0);

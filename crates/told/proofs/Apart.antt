@@ -1,54 +1,22 @@
--- What the numbers that go out say, so that good, abort and refusal are never mistaken for each other. About every call.
---     refusal-numbers    a refusal's number is one of 1 to 14
+-- What the numbers that go out say, so that good, abort and refusal are never mistaken for each other. About every public call.
 --     numbers-tell       the answer, from number, place and sites
 --     answer-by, tells-by    a call's statement, from what its own function ensures: of the answer alone, and with the buffers
 --     given-one          two structs that meet one equation are one: those of open, check, gate, owner, output, sizes and traffic
 --     tells-one, listing-told-one    two answers that meet a statement are one, the buffers too: of plain values, run, view and re-taping; of the listing
 -- Assumes nothing.
 use mathlib.Core.Path.{_≡_, refl, sym, ap, _∙_}
-use mathlib.Core.Bool.{Bool, true, false}
-use mathlib.Core.List.{List, []}
-use Prim.Native.Nat.{ℕ, zero, suc, _+_, _<_, _≤_}
+use mathlib.Core.List.{List}
+use Prim.Native.Nat.{ℕ}
 use native.Mathlib.Omega.{arith}
-use lib.ListN.{length, getD, List·getD-eq-default}
-use lib.Dec.{leb}
-use borrow.Author.Tests.{leb-true, leb-false}
 use Rattle.scope.specs.Answer.{Answer as Said, good, abort, refused, After, number-of, place-of}
-use Rattle.scope.specs.Checks.{Given, Row, no-row, row, refusal-table, Holds}
-use Rattle.scope.specs.Calls.{Call, Listing, given-of, does}
-use Rattle.scope.proofs.Whole.{refused-exactly}
+use Rattle.scope.specs.Calls.{Call, Listing, does}
+use Rattle.demands.specs.Public.{Public}
+use Rattle.demands.proofs.PublicLaws.{refusal-numbers}
 use Rattle.told.specs.declared.Answer.{Answer}
 use Rattle.told.specs.declared.ListingAnswer.{ListingAnswer}
 use Rattle.told.specs.Told.{sites-of, told, Tells, told-listing, text-left}
 
-rows : (g : Given) → length (refusal-table g) ≡ 15
-unfolding refusal-table
-rows g = refl
-
-no-row-above : (g : Given) (N : ℕ) → 15 ≤ N → row g N .span ≡ 0
-unfolding row
-no-row-above g N k = ap (λ (r : Row). r .span) (List·getD-eq-default (refusal-table g) no-row (omega (arith, rows g)))
-
-no-row-zero : (g : Given) (N : ℕ) → N ≡ 0 → row g N .span ≡ 0
-unfolding row refusal-table
-no-row-zero g N e = ap (λ (n : ℕ). row g n .span) e
-
-in-table : (g : Given) (N P : ℕ) → Holds g N P → (1 ≤ N) × (N ≤ 14)
-unfolding Holds
-in-table g N P h = (low (leb 1 N) refl, high (leb N 14) refl)
-  where
-    low : (b : Bool) → leb 1 N ≡ b → 1 ≤ N
-    low true e = leb-true 1 N e
-    low false e = absurd (omega (arith, h .0, no-row-zero g N (omega (arith, leb-false 1 N e))))
-
-    high : (b : Bool) → leb N 14 ≡ b → N ≤ 14
-    high true e = leb-true N 14 e
-    high false e = absurd (omega (arith, h .0, no-row-above g N (omega (arith, leb-false N 14 e))))
-
-pub refusal-numbers : (c : Call) (N P : ℕ) → does c .answer ≡ refused N P → (1 ≤ N) × (N ≤ 14)
-refusal-numbers c N P e = in-table (given-of c) N P ((refused-exactly c N P .0 e) .holds)
-
-module _ (c : Call) where
+module _ (c : Call) (o : Public c) where
   abbrev a : Said
   a = does c .answer
 
@@ -65,8 +33,8 @@ module _ (c : Call) where
     where
       go : (z : Said) → a ≡ z → Read z
       go (good vs) e = (λ _. (vs, refl), (λ h. absurd (omega (arith, h))), (λ h _. absurd (h refl)))
-      go (abort o m) e = ((λ h. absurd (omega (arith, h))), (λ _. refl), (λ _ h. absurd (h refl)))
-      go (refused n p) e = ((λ h. absurd (omega (arith, h, refusal-numbers c n p e))), (λ h. absurd (omega (arith, h, refusal-numbers c n p e))), (λ _ _. refl))
+      go (abort i m) e = ((λ h. absurd (omega (arith, h))), (λ _. refl), (λ _ h. absurd (h refl)))
+      go (refused n p) e = ((λ h. absurd (omega (arith, h, refusal-numbers c o n p e))), (λ h. absurd (omega (arith, h, refusal-numbers c o n p e))), (λ _ _. refl))
 
 pub given-one : {A : Type 0} (x r s : A) → r ≡ x → s ≡ x → r ≡ s
 given-one x r s h k = h ∙ sym k

@@ -2,7 +2,7 @@
 --     plus-tables        the sum of two tables is the table of the sums
 --     under-sums, sums-none, sums-turn, sums-end    the first k steps add at most 2 to an entry each; none, one more, all
 --     input-sum, gate-sum, output-sum    one step, as the code makes it
---     traffic-out, traffic-in    the call, by the check's answer
+--     traffic-refused, traffic-good    the call, by what its check answers;  numbers-are, zeros-are, table-is: what the code leaves is what it does
 -- Assumes nothing.
 use mathlib.Core.Path.{_≡_, refl, sym, ap, ap₂, _∙_, subst}
 use mathlib.Core.Bool.{Bool, true, false, cond, not, _&&_}
@@ -18,12 +18,12 @@ use Rattle.sharing.specs.Traffic.{input-adds, gate-adds, output-adds, sum, entr
 use Rattle.scope.specs.File.{circuit, site-of, inputs-of, gates-of, outputs-of}
 use Rattle.scope.specs.Answer.{good, refused, number-of, After, place-of}
 use Rattle.scope.specs.Checks.{verdict}
-use Rattle.scope.specs.Refusal.{stands-in, those-of}
-use Rattle.scope.specs.Calls.{Check, Traffic, given-of, concerns, order, answers, when-good, when-refused, lent-before, lent-at-13, returned-refused, does}
-use Rattle.scope.proofs.CallLaws.{cond-same, does-good, does-refused}
+use Rattle.scope.specs.Calls.{Check, Traffic, TrafficOf, answers, does, Accepts}
+use Rattle.scope.proofs.CallLaws.{does-good, does-refused}
 use Rattle.circuit.specs.declared.Owner.{Owner}
 use Rattle.circuit.specs.declared.Owner.the-variants.{Is as OwnerIs}
 use Rattle.circuit.specs.Mirror.{owner-by}
+use Rattle.circuit.specs.Checked.{IsChecked}
 use Rattle.circuit.proofs.ReaderLaws.{owner-some}
 use Rattle.header.specs.declared.Counts.{Counts}
 use Rattle.header.specs.declared.Header.{Header}
@@ -194,26 +194,24 @@ whole-is s c i g o ig r op ei eg eo e1 e2 =
     ∙ plus-tables (λ a b. f a b + h a b) w
 
 -- the call, by the check's answer: it checks the circuit and nothing else
-module _ (s : List ℕ) (h : Header) (e : answers (header-answer h) ≡ does (Check s)) where
-  pub traffic-refused : (n p : ℕ) → h ≡ Refused n p → does (Traffic s) ≡ record { answer = refused n p; returned = no-table; lent = [] }
-  unfolding given-of order concerns those-of stands-in returned-refused when-refused lent-at-13 lent-before
-  traffic-refused n p q =
-      does-refused (Traffic s) n p (circuit-refuses (given-of (Traffic s)) refl h e n p q [])
-      ∙ (λ i. record { answer = refused n p; returned = no-table; lent = cond-same {A = List (List ℕ)} (eqb n 13) [] i })
+traffic-refused : (s : List ℕ) (h : Header) → answers (header-answer h) ≡ does (Check s) → (n p : ℕ) → h ≡ Refused n p
+    → does (Traffic s) ≡ record { answer = refused n p; returned = no-table; lent = [] }
+unfolding TrafficOf
+traffic-refused s h e n p q = does-refused (Traffic s) n p (circuit-refuses s h e n p q [])
 
-  pub traffic-good : (c : Counts) → h ≡ Good c → does (Traffic s) ≡ record { answer = good []; returned = traffic-table (circuit s); lent = [] }
-  unfolding given-of order concerns those-of stands-in when-good verdict
-  traffic-good c q = does-good (Traffic s) (circuit-passes (given-of (Traffic s)) refl h e c q [])
+traffic-good : (s : List ℕ) → Accepts (Check s) → does (Traffic s) ≡ record { answer = good []; returned = traffic-table (circuit s); lent = [] }
+unfolding verdict TrafficOf
+traffic-good s a = does-good (Traffic s) (circuit-passes s a [])
 
 -- what the code leaves in the two numbers, and returns
-pub numbers-are : (s : List ℕ) (h : Header) (r : Refusal) → answers (header-answer h) ≡ does (Check s) → r ≡ refusal-by h
+pub numbers-are : (s : List ℕ) (h : Header) (r : Refusal) → answers (header-answer h) ≡ does (Check s) → IsChecked h s → r ≡ refusal-by h
     → (r .number ≡ number-of (does (Traffic s) .answer)) × (r .place ≡ place-of (does (Traffic s) .answer))
 unfolding number-of place-of
-numbers-are s (Good c) r e q = (
-  ap (λ (z : Refusal). z .number) q ∙ ap (λ (z : After). number-of (z .answer)) (sym (traffic-good s (Good c) e c refl)),
-  ap (λ (z : Refusal). z .place) q ∙ ap (λ (z : After). place-of (z .answer)) (sym (traffic-good s (Good c) e c refl)),
+numbers-are s (Good c) r e k q = (
+  ap (λ (z : Refusal). z .number) q ∙ ap (λ (z : After). number-of (z .answer)) (sym (traffic-good s (k .passes))),
+  ap (λ (z : Refusal). z .place) q ∙ ap (λ (z : After). place-of (z .answer)) (sym (traffic-good s (k .passes))),
 )
-numbers-are s (Refused n p) r e q = (
+numbers-are s (Refused n p) r e k q = (
   ap (λ (z : Refusal). z .number) q ∙ ap (λ (z : After). number-of (z .answer)) (sym (traffic-refused s (Refused n p) e n p refl)),
   ap (λ (z : Refusal). z .place) q ∙ ap (λ (z : After). place-of (z .answer)) (sym (traffic-refused s (Refused n p) e n p refl)),
 )
@@ -221,8 +219,8 @@ numbers-are s (Refused n p) r e q = (
 pub zeros-are : (s : List ℕ) (h : Header) (n p : ℕ) → answers (header-answer h) ≡ does (Check s) → h ≡ Refused n p → no-table ≡ does (Traffic s) .returned
 zeros-are s h n p e q = ap (λ (z : After). z .returned) (sym (traffic-refused s h e n p q))
 
-pub table-is : (s : List ℕ) (h : Header) (c : Counts) (r : List (List ℕ)) → answers (header-answer h) ≡ does (Check s) → h ≡ Good c → r ≡ traffic-table (circuit s) → r ≡ does (Traffic s) .returned
-table-is s h c r e q m = m ∙ ap (λ (z : After). z .returned) (sym (traffic-good s h e c q))
+pub table-is : (s : List ℕ) (r : List (List ℕ)) → Accepts (Check s) → r ≡ traffic-table (circuit s) → r ≡ does (Traffic s) .returned
+table-is s r a m = m ∙ ap (λ (z : After). z .returned) (sym (traffic-good s a))
 
 -- two results that meet the statement are equal
 pub traffic-one : (s : List ℕ) (t u : List (List ℕ)) (n m p q : ℕ)

@@ -1,6 +1,6 @@
 // Traffic: a table of sent bits, three senders by three receivers, by value, filled step by step and returned.
 ghost use mathlib.Core.Path.{_≡_};
-ghost use Prim.Native.Nat.{_+_, _*_, _<_, _≤_};
+ghost use Prim.Native.Nat.{_<_, _≤_};
 ghost use Rattle.scope.specs.File.{circuit};
 ghost use Rattle.scope.specs.Answer.{number-of, place-of};
 ghost use Rattle.scope.specs.Calls.{Traffic, does};
@@ -95,8 +95,8 @@ fn outputs_table(n: usize) -> [[u32; 3]; 3]
     t
 }
 
-// The table of a circuit that was checked.
-fn whole_table(file: &[u8], c: Counts) -> [[u32; 3]; 3]
+// Behind 1 to 6, which are all checks of this call: the table. An opened file is enough for it. The public call asks it.
+pub fn whole_table(file: &[u8], c: Counts) -> [[u32; 3]; 3]
     requires { ⌜ Opened (now file) c ⌝ }
     ensures { λ r. ⌜ r ≡ traffic-table (circuit (now (file .entry))) ⌝ }
 {

@@ -25,7 +25,7 @@ use Rattle.scope.specs.Calls.{at-wire}
 use Rattle.header.specs.declared.Counts.{Counts}
 use Rattle.engine.specs.declared.Pos.{Pos}
 use Rattle.shown.specs.Mirror.{all-seen, totals-seen, opened-all}
-use Rattle.shown.proofs.DeliveredLaws.{outs-below, opened-are}
+use Rattle.shown.proofs.DeliveredLaws.{opened-are}
 use Rattle.view.specs.Mirror.{Laid}
 use Rattle.view.proofs.ViewLaws.{fill-part, by-base, view-whole}
 
@@ -116,7 +116,7 @@ module _ (f xs tapes : List ℕ) (s : Site) (view : List ℕ) (c : Counts) (st :
             let o = L .seeing .checked .opened in let k = o .outs-are in let lp = out-part in
             let many : C .ins + C .gates ≡ c .inputs + c .gates = sym (λ i. o .ins-are i + o .gates-are i) in
             e4 ∙ ap (opened-all s f w (c .inputs + c .gates) last) k
-            ∙ opened-are f (at-wire xs) tapes s (c .inputs + c .gates) many w ew last (C .outs) (outs-below f c (L .seeing .checked)) (omega arith)
+            ∙ opened-are f (at-wire xs) tapes s (c .inputs + c .gates) many w ew last (C .outs) (omega arith)
             ∙ fill-all last W (totals-many bits s C (at-wire xs) (read C tapes) (C .outs) ∙ sym k ∙ sym lp)
 
         four-back : v4 ≡ fill view (O ++ P ++ G ++ W)

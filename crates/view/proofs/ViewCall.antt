@@ -4,6 +4,7 @@
 -- Assumes nothing.
 use mathlib.Core.Path.{_≡_, refl, sym, ap₂, _∙_}
 use mathlib.Core.List.{List, [], _∷_}
+use native.Mathlib.Omega.{arith}
 use Prim.Native.Nat.{ℕ, _+_, _*_}
 use lib.ListN.{length}
 use Rattle.sharing.specs.Ops.{bits}
@@ -14,9 +15,9 @@ use Rattle.sharing.specs.Store.{store}
 use Rattle.sharing.specs.View.{view-from}
 use Rattle.scope.specs.File.{site-of, circuit}
 use Rattle.scope.specs.Answer.{good}
-use Rattle.scope.specs.Checks.{Given, verdict}
-use Rattle.scope.specs.Refusal.{position, stands-in, those-of}
-use Rattle.scope.specs.Calls.{Call, View, given-of, concerns, order, lent-before, when-good, returned-refused, at-wire, does, Accepts}
+use Rattle.scope.specs.Checks.{accepted, verdict}
+use Rattle.scope.specs.Calls.{Call, View, ViewOf, at-wire, does, Accepts}
+use Rattle.scope.proofs.Refusals.{Without}
 use Rattle.scope.proofs.CallLaws.{verdict-accepts, accepts-does}
 use Rattle.scope.proofs.Accepted.{ViewOk, view-ok}
 use Rattle.header.specs.declared.Counts.{Counts}
@@ -24,29 +25,26 @@ use Rattle.circuit.specs.Checked.{Checked}
 use Rattle.slices.proofs.ChainLaws.{nothing}
 use Rattle.checks.specs.declared.Done.the-variants.{Good}
 use Rattle.checks.specs.Answers.{done-answer, done-after}
-use Rattle.checks.proofs.FrontLaws.{Front}
-use Rattle.view.specs.Mirror.{view-given, Ready}
+use Rattle.checks.proofs.FrontLaws.{Front, given-passed}
+use Rattle.view.specs.Mirror.{view-checks, Ready}
 
 module _ (f x t : List ℕ) (s : ℕ) (v st : List ℕ) where
   abbrev the-view : Call
   the-view = View f x t s v st
 
-  abbrev g : Given
-  g = view-given f x t s (length v) (length st)
+  pub front : Front the-view f (view-checks f x t s (length v) (length st)) [] (v ∷ st ∷ [])
+  unfolding Without ViewOf
+  front = record { goes = refl; leaves = λ n k. refl; returns = λ n p. refl; no-13 = omega arith }
 
-  pub front : Front the-view g (7 ∷ 8 ∷ 11 ∷ 10 ∷ []) [] (v ∷ st ∷ [])
-  unfolding given-of order concerns those-of stands-in lent-before returned-refused position
-  front = record { gives = refl; asks = refl; goes = refl; lends = refl; returns = λ n p. refl; no-13 = refl }
-
-  module _ (passed : verdict (given-of the-view) (order the-view) ≡ verdict g []) where
+  module _ (c : Counts) (k : Checked f c) (clear : verdict (view-checks f x t s (length v) (length st)) ≡ accepted) where
     accepts : Accepts the-view
-    accepts = verdict-accepts the-view (passed ∙ sym (nothing g))
+    accepts = verdict-accepts the-view (given-passed the-view f _ [] _ front (k .passes) clear ∙ sym nothing)
 
     ok : ViewOk f x t s v st
     ok = view-ok f x t s v st accepts
 
-    pub ready : (c : Counts) → Checked f c → Ready f c s (length x) (length t) (length v) (length st)
-    ready c k =
+    pub ready : Ready f c s (length x) (length t) (length v) (length st)
+    ready =
         let o = k .opened in
         record {
           checked = k;
@@ -58,5 +56,5 @@ module _ (f x t : List ℕ) (s : ℕ) (v st : List ℕ) where
 
     pub accepted-view : (v′ st′ : List ℕ) → v′ ≡ view-from bits (site-of s) (circuit f) (at-wire x) t
         → st′ ≡ store (after bits (circuit f) (at-wire x) (read (circuit f) t) no-errors (circuit f .gates)) → done-after Good (v′ ∷ st′ ∷ []) ≡ does the-view
-    unfolding done-answer when-good
+    unfolding done-answer ViewOf
     accepted-view v′ st′ a b = (λ i. record { answer = good []; returned = []; lent = a i ∷ b i ∷ [] }) ∙ sym (accepts-does the-view accepts)

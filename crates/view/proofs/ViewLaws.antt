@@ -1,7 +1,7 @@
 -- What the proofs of a view cite.
 --     view-sizes              how long the two buffers are to be, by what is counted
 --     fill-part               a part of a buffer that is filled from the front is back
---     tape-cut                the site's tape, in the one slice
+--     by-base                 the site's tape, in the one slice
 --     laid, in-order          the places of the four parts
 --     view-whole              the four parts together are the document's view
 -- Assumes nothing.
@@ -60,12 +60,6 @@ by-base C tapes s2 l = refl
 by-base C tapes s3 l =
     let k = length-drop (tape-length C s1 + tape-length C s2) tapes in
     take-all (tape-length C s3) (drop (tape-length C s1 + tape-length C s2) tapes) (omega arith)
-
-pub tape-cut : (C : Circuit) (tapes : List ℕ) (s : Site) (t m : ℕ) → length tapes ≡ tapes-sum C → t ≡ base C s → m ≡ tape-length C s
-    → take (t + m - t) (drop t tapes) ≡ of (cut C tapes) s
-tape-cut C tapes s t m l e q =
-    let k : t + m - t ≡ m = omega arith in
-    (λ i. take (k i) (drop t tapes)) ∙ (λ i. take (q i) (drop (e i) tapes)) ∙ by-base C tapes s l
 
 -- where the site's tape begins and ends
 pub place-base : (C : Circuit) (pos : Pos) (s : Site) (t : ℕ) → pos ≡ in-place C 0 → t ≡ site-place pos s → t ≡ base C s

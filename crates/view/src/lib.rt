@@ -13,10 +13,11 @@ ghost use Rattle.scope.specs.File.{circuit, site-of};
 ghost use Rattle.scope.specs.Checks.{verdict};
 ghost use Rattle.scope.specs.Calls.{at-wire, View, does};
 ghost use Rattle.header.specs.Opened.{Opened};
+ghost use Rattle.circuit.specs.Checked.{Checked};
 ghost use Rattle.link.specs.Loops.{site-place};
 ghost use Rattle.checks.specs.Answers.{done-after};
 ghost use Rattle.given.specs.Mirror.{found};
-ghost use Rattle.view.specs.Mirror.{view-given, Ready, Laid};
+ghost use Rattle.view.specs.Mirror.{view-checks, Ready, Laid};
 use checks::Done;
 use engine::Pos;
 use given::Fault;
@@ -35,7 +36,7 @@ fn given_fault(
     store: usize,
 ) -> Fault
     requires { ⌜ Opened (now file) c × (a ≡ ands (circuit (now file) .gate) (c .gates)) × (a ≤ c .gates) ⌝ }
-    ensures { λ r. ⌜ found r ≡ verdict (view-given (now (file .entry)) (now (xs .entry)) (now (tapes .entry)) site view store) (7 ∷ 8 ∷ 11 ∷ 10 ∷ []) ⌝ }
+    ensures { λ r. ⌜ found r ≡ verdict (view-checks (now (file .entry)) (now (xs .entry)) (now (tapes .entry)) site view store) ⌝ }
 {
     let f = given::slices_fault(file, c, a, xs, tapes);
     if f.number != 0 {
@@ -109,8 +110,8 @@ fn fill_view(
     shown::opened_bits(file, c, store, &mut view[e..n], site);
 }
 
-// The view on a circuit and slices that were checked: where its parts begin, then the parts.
-fn view_checked(
+// Behind all checks: where the view's parts begin, then the parts. What is behind 1 to 6 asks it.
+pub fn view_checked(
     file: &[u8],
     c: Counts,
     a: usize,
@@ -148,6 +149,29 @@ fn view_checked(
     );
 }
 
+// Behind checks 1 to 6, on the counts that they gave: A is counted, 7, 8, 11 and 10 are made, then the view. The public view asks it, and any
+// other form of a view that has its circuit checked first.
+pub fn view_opened(
+    file: &[u8],
+    c: Counts,
+    inputs: &[u8],
+    tapes: &[u8],
+    site: usize,
+    view: &mut [u8],
+    store: &mut [u8],
+) -> Done
+    requires { ⌜ Checked (now file) c ⌝ }
+    ensures { λ r. ⌜ done-after r (now (view .exit) ∷ now (store .exit) ∷ []) ≡ does (View (now (file .entry)) (now (inputs .entry)) (now (tapes .entry)) site (now (view .entry)) (now (store .entry))) ⌝ }
+{
+    let a = tally::count_ands(file, c);
+    let f = given_fault(file, c, a, inputs, tapes, site, view.len(), store.len());
+    if f.number != 0 {
+        return Done::Refused(f.number, f.place);
+    }
+    view_checked(file, c, a, inputs, tapes, site, view, store);
+    Done::Good
+}
+
 // PUBLIC. What a site sees of a run on a clean line, whatever is given. View and store are lent; a refusal leaves both as they were. The store
 // holds afterwards what a clean run's store holds.
 pub fn view_of(
@@ -164,11 +188,5 @@ pub fn view_of(
     let Header::Good(c) = h else {
         return checks::refused(h);
     };
-    let a = tally::count_ands(file, c);
-    let f = given_fault(file, c, a, inputs, tapes, site, view.len(), store.len());
-    if f.number != 0 {
-        return Done::Refused(f.number, f.place);
-    }
-    view_checked(file, c, a, inputs, tapes, site, view, store);
-    Done::Good
+    view_opened(file, c, inputs, tapes, site, view, store)
 }

@@ -26,7 +26,8 @@ use Rattle.sharing.proofs.StoreLaws.{side-length, fill-all}
 use Rattle.sharing.proofs.TapeLaws.{gates-length}
 use Rattle.scope.specs.File.{inputs-of, gates-of, kind-at, first-at, second-at, gate-of, circuit}
 use Rattle.scope.specs.Plain.{plain}
-use Rattle.scope.specs.Calls.{at-wire, both-plain}
+use Rattle.scope.specs.Calls.{at-wire, both-plain-of}
+use Rattle.scope.specs.AtBits.{both-plain}
 use Rattle.scope.specs.Statements.{Bits}
 use Rattle.scope.proofs.PlainLaws.{plain-is, plain-length}
 use Rattle.header.specs.declared.Counts.{Counts}
@@ -111,17 +112,17 @@ module _ (s : Site) (C : Circuit) (xs ys own nx pv old fresh : List ℕ) (bx : B
   at-gate g = state s C x y own nx pv B old fresh g
 
   plain-long : length B ≡ 2 * wires C
-  unfolding both-plain
+  unfolding both-plain-of
   plain-long = let a = plain-length C xs in let b = plain-length C ys in length-append (plain C xs) (plain C ys) ∙ (let q : length (plain C xs) + length (plain C ys) ≡ 2 * wires C = omega arith in q)
 
   first-values : (g a : ℕ) → g ≤ C .gates → a < C .ins + g → getD B a 0 ≡ getD (values bits C x g) a 0
-  unfolding both-plain
+  unfolding both-plain-of
   first-values g a l h =
       let k = plain-length C xs in
       List·getD-append (plain C xs) (plain C ys) 0 a (omega arith) ∙ ap (λ (v : List ℕ). getD v a 0) (plain-is C xs (bx .small)) ∙ values-kept C x g (C .gates) a l h
 
   second-values : (g a : ℕ) → g ≤ C .gates → a < C .ins + g → getD B (wires C + a) 0 ≡ getD (values bits C y g) a 0
-  unfolding both-plain
+  unfolding both-plain-of
   second-values g a l h =
       ap (λ (z : ℕ). getD B (z + a) 0) (sym (plain-length C xs)) ∙ getD-append-add (plain C xs) (plain C ys) a 0
       ∙ ap (λ (v : List ℕ). getD v a 0) (plain-is C ys (by .small)) ∙ values-kept C y g (C .gates) a l h

@@ -23,7 +23,8 @@ use Rattle.sharing.specs.Retape.{mine, rest, retape}
 use Rattle.sharing.specs.Store.{side, fill}
 use Rattle.pairs.specs.declared.Places.{Places}
 use Rattle.scope.specs.File.{circuit}
-use Rattle.scope.specs.Calls.{at-wire, both-plain}
+use Rattle.scope.specs.Calls.{at-wire}
+use Rattle.scope.specs.AtBits.{both-plain}
 use Rattle.pairs.specs.Mirror.{St, st, places, put-two, put-wire, gate-on}
 use Rattle.circuit.specs.Loop.{up-to}
 

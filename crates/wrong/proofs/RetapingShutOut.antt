@@ -7,7 +7,7 @@
 --     twelve-before-ten-fails       a re-taping that looks at 12 before 10, with no second inputs and empty buffers
 -- Assumes nothing.
 use mathlib.Core.Path.{_≡_, refl, sym, ap, _∙_}
-use mathlib.Core.List.{List, [], _∷_}
+use mathlib.Core.List.{List, [], _∷_, flatMap}
 use Prim.Native.Nat.{ℕ}
 use native.Mathlib.Omega.{arith}
 use lib.ListN.{getD}
@@ -16,15 +16,15 @@ use Rattle.sharing.specs.Circuit.{dealing, ands, owned}
 use Rattle.sharing.specs.First.{first}
 use Rattle.scope.specs.File.{le16, le32, size, owner-at, kind-at, first-at, second-at, output-at, site-of, gate-of}
 use Rattle.scope.specs.Answer.{After, number-of}
-use Rattle.scope.specs.Checks.{tested, row-owner, good-gate, row-gate, row-output, refusal-table, row, fault, verdict}
-use Rattle.scope.specs.Refusal.{stands-in, those-of}
-use Rattle.scope.specs.Calls.{Call, View, Retape, given-of, fixed-order, concerns, order, settle, does, Accepts}
+use Rattle.scope.specs.Checks.{tested, row-owner, good-gate, row-gate-of, row-output, fault, verdict}
+use Rattle.scope.specs.Calls.{Call, Open, GateAt, OwnerAt, OutputAt, CheckOf, TrafficOf, PlainOf, RunOf, View, ViewOf, Retape, RetapeOf, Listing, settle, does, Accepts}
 use Rattle.scope.proofs.CallLaws.{good-accepts}
 use Rattle.checks.specs.declared.Done.{Done}
 use Rattle.checks.specs.Answers.{done-answer}
+use Rattle.demands.specs.Public.{OnFile, is-open, is-gate, is-owner, is-output, is-check, is-traffic, is-plain, is-run, is-view, is-retape, is-listing, fixed-order}
 use Rattle.demands.specs.Marked.{K-file, K-tapes, untouched, K-retape, good-with}
 use Rattle.demands.proofs.Marked.{marked}
-use Rattle.wrong.specs.Retaping.{TapeEngine, TapeMeets, TapeMeetsOn, hands-old-tapes-back, refuses-freely, ViewMeetsOn, in-order, ten-before-eleven, twelve-before-ten, views-in-order, retapes-in-order}
+use Rattle.wrong.specs.Retaping.{TapeEngine, TapeMeets, TapeMeetsOn, hands-old-tapes-back, refuses-freely, ViewMeetsOn, having, in-order, ten-before-eleven, twelve-before-ten, views-in-order, retapes-in-order}
 
 -- the row of K8
 K8 : does (K-retape 3 (1 ∷ 0 ∷ []) (0 ∷ 1 ∷ []))
@@ -54,22 +54,32 @@ pub K8-only : (r : Done) (fresh room : List ℕ) → TapeMeets K-file (1 ∷ 0 �
 K8-only r fresh room m = ap (λ (z : After). getD (z .lent) 0 []) (m ∙ K8)
 
 -- the order of checks is all that is wrong
-pub right-order : (c : Call) → in-order fixed-order c ≡ does c
-unfolding does order
-right-order c = refl
+pub right-order : (c : Call) → OnFile c → in-order fixed-order c ≡ does c
+unfolding does having flatMap Open GateAt OwnerAt OutputAt CheckOf TrafficOf PlainOf RunOf ViewOf RetapeOf Listing
+right-order _ (is-open f) = refl
+right-order _ (is-gate f n) = refl
+right-order _ (is-owner f n) = refl
+right-order _ (is-output f n) = refl
+right-order _ (is-check f) = refl
+right-order _ (is-traffic f) = refl
+right-order _ (is-plain f x vs) = refl
+right-order _ (is-run f x t l outs tr st) = refl
+right-order _ (is-view f x t s v st) = refl
+right-order _ (is-retape f x t y s nt wr) = refl
+right-order _ (is-listing j) = refl
 
 -- K's circuit asked for site 4 with empty buffers, and for site 3 with no second inputs and empty buffers: the number that is promised
 promised : (number-of (does (View K-file (1 ∷ 1 ∷ []) K-tapes 4 [] []) .answer) ≡ 11)
     × (number-of (does (Retape K-file (1 ∷ 1 ∷ []) K-tapes (1 ∷ 1 ∷ []) 4 [] []) .answer) ≡ 11)
     × (number-of (does (Retape K-file (1 ∷ 1 ∷ []) K-tapes [] 3 [] []) .answer) ≡ 10)
-unfolding is dealing ands owned first le16 le32 size owner-at kind-at first-at second-at output-at site-of gate-of tested row-owner good-gate row-gate row-output refusal-table row fault verdict given-of concerns those-of stands-in order settle does number-of
+unfolding is dealing ands owned first le16 le32 size owner-at kind-at first-at second-at output-at site-of gate-of tested row-owner good-gate row-gate-of row-output fault verdict settle does number-of ViewOf RetapeOf
 promised = (refl, refl, refl)
 
 -- and the number that comes in another order
 told : (number-of (done-answer (views-in-order ten-before-eleven K-file (1 ∷ 1 ∷ []) K-tapes 4 [] [] .0)) ≡ 10)
     × (number-of (done-answer (retapes-in-order ten-before-eleven K-file (1 ∷ 1 ∷ []) K-tapes (1 ∷ 1 ∷ []) 4 [] [] .0)) ≡ 10)
     × (number-of (done-answer (retapes-in-order twelve-before-ten K-file (1 ∷ 1 ∷ []) K-tapes [] 3 [] [] .0)) ≡ 12)
-unfolding is dealing ands owned first le16 le32 size owner-at kind-at first-at second-at output-at site-of gate-of tested row-owner good-gate row-gate row-output refusal-table row fault verdict given-of concerns those-of stands-in settle number-of done-answer
+unfolding is dealing ands owned first le16 le32 size owner-at kind-at first-at second-at output-at site-of gate-of tested row-owner good-gate row-gate-of row-output fault verdict having flatMap settle number-of done-answer ViewOf RetapeOf
 told = (refl, refl, refl)
 
 abbrev number : After → ℕ

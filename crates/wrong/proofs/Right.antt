@@ -5,7 +5,7 @@
 --     first-gate-bit    one that meets it on other tapes has 0 as the gate's first bit; K1 has 1
 -- Assumes nothing.
 use mathlib.Core.Path.{_≡_, refl, sym, ap, _∙_}
-use mathlib.Core.List.{List, [], _∷_}
+use mathlib.Core.List.{List, [], _∷_, _++_}
 use Prim.Native.Nat.{ℕ}
 use lib.ListN.{getD}
 use Rattle.sharing.specs.Sites.{is}
@@ -19,14 +19,14 @@ use Rattle.sharing.specs.Store.{side, store, fill}
 use Rattle.sharing.proofs.StoreLaws.{fill-all}
 use Rattle.scope.specs.File.{le16, le32, size, owner-at, kind-at, first-at, second-at, output-at, site-of, gate-of}
 use Rattle.scope.specs.Answer.{After, good}
-use Rattle.scope.specs.Checks.{tested, row-owner, good-gate, row-gate, row-output, refusal-table, row, fault, verdict, accepted}
-use Rattle.scope.specs.Refusal.{stands-in, those-of}
-use Rattle.scope.specs.Calls.{Call, given-of, concerns, order, ran, when-good, does}
+use Rattle.scope.specs.Checks.{tested, row-owner, good-gate, row-gate-of, row-output, fault, verdict, accepted}
+use Rattle.scope.specs.AtBits.{circuit-checks}
+use Rattle.scope.specs.Calls.{Call, unrefused, ran-of, does, Run, RunOf}
 use Rattle.scope.proofs.CallLaws.{does-good, good-accepts}
 use Rattle.scope.proofs.Accepted.{run-ok}
 use Rattle.run.specs.declared.Ran.the-variants.{Good}
 use Rattle.run.specs.Answers.{run-answer}
-use Rattle.given.specs.Mirror.{run-given}
+use Rattle.given.specs.Mirror.{run-checks}
 use Rattle.run.proofs.RunCall.{run-one}
 use Rattle.demands.specs.Marked.{K-file, K-tapes, K-line, K-store}
 use Rattle.wrong.specs.Engine.{Lent, Meets, K1-outputs, K1-transcript, other-tapes, Long}
@@ -37,30 +37,29 @@ on-K inputs tapes b = asked K-file inputs tapes (K-line []) b
 
 -- every check of a run of K's circuit passes, with buffers of the right lengths
 abbrev Sound : (inputs tapes : List ℕ) → Type 0
-Sound inputs tapes = verdict (run-given K-file inputs tapes (K-line []) 3 26 18) (1 ∷ 2 ∷ 3 ∷ 4 ∷ 5 ∷ 6 ∷ 7 ∷ 8 ∷ 9 ∷ 10 ∷ []) ≡ accepted
+Sound inputs tapes = verdict (circuit-checks K-file ++ run-checks K-file inputs tapes (K-line []) 3 26 18) ≡ accepted
 
 sound : Sound (1 ∷ 1 ∷ []) K-tapes × Sound (1 ∷ 0 ∷ []) K-tapes × Sound (1 ∷ 1 ∷ []) other-tapes
-unfolding dealing ands first le16 le32 size owner-at kind-at first-at second-at output-at gate-of tested row-owner good-gate row-gate row-output refusal-table row fault verdict
+unfolding dealing ands first le16 le32 size owner-at kind-at first-at second-at output-at gate-of tested row-owner good-gate row-gate-of row-output fault verdict
 sound = (refl, refl, refl)
 
 module _ (inputs tapes : List ℕ) (s : Sound inputs tapes) (b : Lent) (h : Long b) where
   -- the checks see of the lent buffers their lengths alone
-  judged : verdict (given-of (on-K inputs tapes b)) (order (on-K inputs tapes b)) ≡ accepted
-  unfolding given-of order concerns those-of stands-in
+  judged : verdict (on-K inputs tapes b .checks) ≡ accepted
+  unfolding RunOf
   judged =
-      (λ i. verdict (run-given K-file inputs tapes (K-line []) (h .outputs-long i) (h .transcript-long i) (h .store-long i))
-      (1 ∷ 2 ∷ 3 ∷ 4 ∷ 5 ∷ 6 ∷ 7 ∷ 8 ∷ 9 ∷ 10 ∷ []))
+      (λ i. verdict (circuit-checks K-file ++ run-checks K-file inputs tapes (K-line []) (h .outputs-long i) (h .transcript-long i) (h .store-long i)))
       ∙ s
 
-  goes-on : does (on-K inputs tapes b) ≡ when-good (on-K inputs tapes b)
+  goes-on : does (on-K inputs tapes b) ≡ unrefused (on-K inputs tapes b .good)
   goes-on = does-good (on-K inputs tapes b) judged
 
 -- what is needed of the three runs, computed
 laid : (b : Lent)
-    → (when-good (on-K (1 ∷ 1 ∷ []) K-tapes b) ≡ record { answer = good []; returned = []; lent = K1-outputs ∷ fill (b .transcript) K1-transcript ∷ K-store ∷ [] })
-    × (getD (when-good (on-K (1 ∷ 0 ∷ []) K-tapes b) .lent) 0 [] ≡ 0 ∷ 0 ∷ 0 ∷ [])
-    × (getD (getD (when-good (on-K (1 ∷ 1 ∷ []) other-tapes b) .lent) 1 []) 8 0 ≡ 0)
-unfolding is dealing ands owned objecting copies delivered in-wire delivered3 mix gate-wire gate-delivered six opened first ins-after after ins-delivered gates-delivered output out-delivered objects stop opens-delivered made transcript opened-at outputs tape-length draws at-input at-gate at-output errors side store fill le16 le32 owner-at kind-at first-at second-at output-at site-of gate-of ran when-good
+    → (unrefused ((on-K (1 ∷ 1 ∷ []) K-tapes b) .good) ≡ record { answer = good []; returned = []; lent = K1-outputs ∷ fill (b .transcript) K1-transcript ∷ K-store ∷ [] })
+    × (getD ((on-K (1 ∷ 0 ∷ []) K-tapes b) .good .lent) 0 [] ≡ 0 ∷ 0 ∷ 0 ∷ [])
+    × (getD (getD ((on-K (1 ∷ 1 ∷ []) other-tapes b) .good .lent) 1 []) 8 0 ≡ 0)
+unfolding is dealing ands owned objecting copies delivered in-wire delivered3 mix gate-wire gate-delivered six opened first ins-after after ins-delivered gates-delivered output out-delivered objects stop opens-delivered made transcript opened-at outputs tape-length draws at-input at-gate at-output errors side store fill le16 le32 owner-at kind-at first-at second-at output-at site-of gate-of ran-of RunOf
 laid b = (refl, refl, refl)
 
 pub K1-right : (b : Lent) → Long b → Meets K-file (1 ∷ 1 ∷ []) K-tapes (K-line []) (b .outputs) (b .transcript) (b .store) Good K1-outputs K1-transcript K-store

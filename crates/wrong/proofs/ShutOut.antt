@@ -28,9 +28,8 @@ use Rattle.sharing.specs.Traffic.{input-adds, gate-adds, output-adds, sum, entr
 use Rattle.scope.specs.File.{le16, le32, size, owner-at, kind-at, first-at, second-at, output-at, site-of, gate-of}
 use Rattle.scope.specs.Plain.{bit, byte, plain-gate, plain-inputs, plain-values, plain}
 use Rattle.scope.specs.Answer.{After}
-use Rattle.scope.specs.Checks.{tested, row-owner, good-gate, row-gate, row-output, refusal-table, row, fault, verdict}
-use Rattle.scope.specs.Refusal.{stands-in, those-of}
-use Rattle.scope.specs.Calls.{Traffic, given-of, concerns, order, when-good, settle, does, Accepts, buffer}
+use Rattle.scope.specs.Checks.{tested, row-owner, good-gate, row-gate-of, row-output, fault, verdict}
+use Rattle.scope.specs.Calls.{Traffic, TrafficOf, settle, does, Accepts, buffer}
 use Rattle.scope.specs.Statements.{Clean, opened-plain}
 use Rattle.scope.proofs.CallLaws.{good-accepts}
 use Rattle.run.specs.declared.Ran.the-variants.{Good}
@@ -108,7 +107,7 @@ copying-fails-on-K1 b = (
 
 -- what site 1 sends to site 2, by K's file and by that file with input 0 owned by site 2
 one-to-two : (getD (getD (does (Traffic K-file) .returned) 0 []) 1 0 ≡ 4) × (getD (getD (does (Traffic (set K-file 32 2)) .returned) 0 []) 1 0 ≡ 2)
-unfolding is dealing first input-adds gate-adds output-adds sum entry traffic-table le16 le32 size owner-at kind-at first-at second-at output-at site-of gate-of tested row-owner good-gate row-gate row-output refusal-table row fault verdict given-of order concerns those-of stands-in when-good settle does
+unfolding is dealing first input-adds gate-adds output-adds sum entry traffic-table le16 le32 size owner-at kind-at first-at second-at output-at site-of gate-of tested row-owner good-gate row-gate-of row-output fault verdict settle does TrafficOf
 one-to-two = (refl, refl)
 
 -- "shut out a made-up traffic table"

@@ -4,17 +4,19 @@
 --     hands-old-tapes-back   whatever it lays down in the work room
 --     refuses-freely n p     with this number and place
 --     ViewEngine, ViewMeets, ViewMeetsOn    the same for a view
+--     having                                the checks of a number
 --     in-order                              a call that makes its checks in another order, and is right in all else
 --     ten-before-eleven, twelve-before-ten  two such orders
 --     views-in-order, retapes-in-order      a view and a re-taping in such an order
 use mathlib.Core.Path.{_≡_}
-use mathlib.Core.List.{List, [], _∷_}
+use mathlib.Core.Bool.{cond}
+use mathlib.Core.List.{List, [], _∷_, flatMap}
 use Prim.Native.Nat.{ℕ}
 use lib.ListN.{getD}
+use lib.Dec.{eqb}
 use Rattle.scope.specs.Answer.{Answer, good, abort, refused, After}
-use Rattle.scope.specs.Checks.{verdict}
-use Rattle.scope.specs.Refusal.{those-of}
-use Rattle.scope.specs.Calls.{Call, View, Retape, given-of, concerns, settle, does}
+use Rattle.scope.specs.Checks.{Refusal, verdict}
+use Rattle.scope.specs.Calls.{Call, View, Retape, settle, does}
 use Rattle.checks.specs.declared.Done.{Done}
 use Rattle.checks.specs.declared.Done.the-variants.{Good, Refused}
 use Rattle.checks.specs.Answers.{done-after}
@@ -51,8 +53,12 @@ ViewMeetsOn engine file inputs tapes site view store =
     ViewMeets file inputs tapes site view store (z .0) (z .1) (z .2)
 
 -- what `does` is (scope/specs/Calls.antt), with another order of all checks in the place of the one order
+unfoldable pub having : ℕ → List Refusal → List Refusal
+having n [] = []
+having n (c ∷ cs) = cond (eqb (c .number 0) n) (c ∷ having n cs) (having n cs)
+
 abbrev pub in-order : List ℕ → Call → After
-in-order ns c = settle c (verdict (given-of c) (those-of (concerns c) ns))
+in-order ns c = settle c (verdict (flatMap (λ n. having n (c .checks)) ns))
 
 -- 01: "The exceptions are 14, which comes first, and 11, which comes just before 10": here 11 is none,
 abbrev pub ten-before-eleven : List ℕ

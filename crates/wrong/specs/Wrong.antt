@@ -22,7 +22,7 @@ use Rattle.sharing.specs.Store.{store as storing}
 use Rattle.scope.specs.File.{inputs-of, gates-of, outputs-of, circuit}
 use Rattle.scope.specs.Plain.{plain}
 use Rattle.scope.specs.Calls.{Call, Run, buffer, at-wire}
-use Rattle.scope.specs.Statements.{opened-plain}
+use Rattle.scope.specs.Statements.{bit-family, opened-plain}
 use Rattle.run.specs.declared.Ran.the-variants.{Good, Refused}
 use Rattle.wrong.specs.Engine.{Lent, Engine, TableEngine}
 
@@ -73,7 +73,7 @@ copies-plain-values lays sends file inputs tapes line b =
     let ins = ins-delivered bits C (at-wire inputs) (read C tapes) (errors C line) (C .ins) in (
       Good,
       record {
-        outputs = opened-plain C inputs (C .outs);
+        outputs = opened-plain bit-family C inputs (C .outs);
         transcript = fill (b .transcript) (ins ++ (gates-sent sends C vs (C .gates) ++ opens-sent C ws (C .outs)));
         store = storing ws;
       },

@@ -30,7 +30,7 @@ returns-2 c = rw (not-kind _ _ _ (c .before .before .before .before .if2 .taken)
 and-gate-requires : tie.Need-and-gate-requires
 and-gate-requires c κs =
     let a = c .before .before .before .before .before .before .before .before .args in let p = c .before .before .before .before .before .before .before .before .pre in
-    let x = c .before .before .before .before .if1 .left in let y = c .before .before .before .if2 .left in let h = and-or-lower (a .kind) (a .a) (a .b) (a .w) x y (p .1 .0 .0) in
+    let x = c .before .before .before .before .if1 .left in let y = c .before .before .before .if2 .left in let h = and-or-lower (a .kind) (a .a) (a .b) (a .n) x y (p .1 .0 .0) in
     (search needs, ((h .0, h .1, p .1 .0 .1), rw (and-or-deals (a .kind) (a .a) (a .b) x y) at (p .1 .1)))
 
 returns-3 : tie.Need-returns-3

@@ -2,7 +2,7 @@ use borrow.Author.Needs.{needs}
 use native.Mathlib.Omega.{arith}
 use Rattle.circuit.proofs.ReaderLaws.{gate-none}
 use Rattle.circuit.proofs.CheckedLaws.{gate-is}
-use Rattle.engine.proofs.EngineLaws.{gate-lower}
+use Rattle.engine.proofs.EngineLaws.{gate-below}
 use Rattle.engine.proofs.gate_step.Statement.{statement}
 use Rattle.engine.proofs.gate_step.Tie as tie
 
@@ -14,7 +14,7 @@ kind-step-requires c κs = let p = c .before .before .before .before .before .be
     let o = p .0 .0 .opened in let f = o .few-inputs in let g = o .few-gates in
     let e = c .before .before .before .before .before .gate-with .ensures in let q = c .before .before .before .r .given .1 in
     let is = gate-is _ _ _ _ _ _ _ o e q (p .0 .1) in
-    ((p .1 .0, omega arith), ((gate-lower _ _ _ _ _ _ _ (p .0 .0) e q (p .0 .1), omega (arith, p .0 .1)), rw (← is) at (p .1 .1)))
+    ((p .1 .0, omega arith), ((gate-below _ _ _ _ _ _ _ (p .0 .0) e q (p .0 .1), omega (arith, p .0 .1)), rw (← is) at (p .1 .1)))
 
 returns-2 : tie.Need-returns-2
 returns-2 c =

@@ -7,7 +7,6 @@ use Rattle.sharing.specs.Tapes.{read}
 use Rattle.scope.specs.File.{circuit, site-of}
 use Rattle.scope.specs.Calls.{at-wire}
 use Rattle.engine.specs.Mirror.{st}
-use Rattle.link.specs.Link.{cut3}
 use Rattle.circuit.proofs.LoopLaws.{at-end}
 use Rattle.seen.specs.Mirror.{ins-seen}
 use Rattle.seen.proofs.InsLaws.{ins-start, ins-turn, ins-room}
@@ -16,7 +15,7 @@ use Rattle.seen.proofs.inputs_pass.Tie as tie
 
 abbrev Inv-loop : tie.InvT-loop
 Inv-loop file c xs tapes store₀ got₀ site i q₀ k₀ store got q k =
-    (k ≤ i) × (st store got q ≡ ins-seen (site-of site) (circuit file) (at-wire xs) (read (circuit file) tapes) (cut3 (c .inputs + c .gates) store₀) got₀ k)
+    (k ≤ i) × (st store got q ≡ ins-seen (site-of site) (circuit file) (at-wire xs) (read (circuit file) tapes) (c .inputs + c .gates) store₀ got₀ k)
     × (length store ≡ length store₀) × (length got ≡ length got₀)
 
 abbrev μ-loop : tie.MeasureT-loop
@@ -36,7 +35,7 @@ loop-again c = let p = c .before .before .before .before .before .before .before
     (search needs, ins-turn (a .file .now) (a .xs .now) (a .tapes .now) (site-of (a .site)) (a .store .now) (a .got .now) (a .c) (p .0 .0) _ (st _ _ _) _ t (l .inv .1) (r .ensures), r .kept .1 .1 .1 .1 .0 ∙ l .inv .2, r .kept .1 .1 .1 .1 .1 .0 ∙ l .inv .3)
 
 returns : tie.Need-returns Inv-loop μ-loop
-returns c = let l = c .before .loop in at-end (ins-seen _ _ _ _ _ _) _ _ _ (l .inv .1) (l .inv .0) (c .loop-test .left)
+returns c = let l = c .before .loop in at-end (ins-seen _ _ _ _ _ _ _) _ _ _ (l .inv .1) (l .inv .0) (c .loop-test .left)
 
 pub inputs-pass-spec : {M : Type 1} → statement M
 inputs-pass-spec =

@@ -1,5 +1,5 @@
 use borrow.Author.Needs.{needs}
-use Rattle.seen.proofs.StepLaws.{seen-two, seen-own}
+use Rattle.seen.proofs.SeenLaws.{seen-two, seen-own}
 use Rattle.seen.proofs.see_two.Statement.{statement}
 use Rattle.seen.proofs.see_two.Tie as tie
 

@@ -1,37 +1,14 @@
 use borrow.Author.Needs.{needs}
-use Rattle.given.proofs.GivenLaws.{found-no, found-yes}
-use Rattle.checks.proofs.FrontLaws.{checked-from, done-circuit, done-given, given-passed}
-use Rattle.view.proofs.ViewCall.{front, ready, accepted-view}
+use Rattle.checks.proofs.FrontLaws.{checked-from, done-circuit}
+use Rattle.view.proofs.ViewCall.{front}
 use Rattle.view.proofs.view_of.Statement.{statement}
 use Rattle.view.proofs.view_of.Tie as tie
 
 returns : tie.Need-returns
 returns c = done-circuit _ _ _ _ _ (front _ _ _ _ _ _) _ (c .before .before .before .check-file .ensures .0) _ _ _ (c .before .enum-told .given .1) (c .refused .ensures)
 
-count-ands-requires : tie.Need-count-ands-requires
-count-ands-requires c κs = (checked-from _ _ _ (c .before .h .given .1) (c .before .before .before .check-file .ensures .1)) .opened
-
-given-fault-requires : tie.Need-given-fault-requires
-given-fault-requires c κs = ((checked-from _ _ _ (c .before .before .h .given .1) (c .before .before .before .before .check-file .ensures .1)) .opened, c .count-ands .ensures .0, c .count-ands .ensures .1)
-
-returns-2 : tie.Need-returns-2
-returns-2 c =
-    done-given _ _ _ _ _ (front _ _ _ _ _ _) _ (c .before .before .before .before .before .before .before .check-file .ensures .0) _ (c .before .before .before .before .before .h .given .1) _ _
-    (found-no _ _ (c .before .before .given-fault .ensures) (c .if1 .taken))
-
-view-checked-requires : tie.Need-view-checked-requires
-view-checked-requires c κs =
-    let a = c .before .before .before .before .before .before .before .before .before .before .before .before .before .before .before .args in let e = c .before .before .before .before .before .before .before .before .before .check-file .ensures in let q = c .before .before .before .before .before .before .before .h .given .1 in
-    let F = front (a .file .now) (a .inputs .now) (a .tapes .now) (a .site) (a .view .now) (a .store .now) in (
-      ready _ _ _ _ _ _ (given-passed _ _ _ _ _ F _ (e .0) _ q (found-yes _ _ (c .before .before .before .before .given-fault .ensures) (c .before .before .if1 .left))) _ (checked-from _ _ _ q (e .1)),
-      c .before .before .before .before .before .count-ands .ensures,
-    )
-
-returns-3 : tie.Need-returns-3
-returns-3 c =
-    let r = c .before .before .before .before .view-checked .ensures in
-    accepted-view _ _ _ _ _ _ (given-passed _ _ _ _ _ (front _ _ _ _ _ _) _ (c .before .before .before .before .before .before .before .before .before .before .before .before .before .before .check-file .ensures .0) _ (c .before .before .before .before .before .before .before .before .before .before .before .before .h .given .1)
-    (found-yes _ _ (c .before .before .before .before .before .before .before .before .before .given-fault .ensures) (c .before .before .before .before .before .before .before .if1 .left))) _ _ (r .0) (r .1)
+view-opened-requires : tie.Need-view-opened-requires
+view-opened-requires c κs = checked-from _ _ _ (c .before .before .before .h .given .1) (c .before .before .before .before .before .check-file .ensures .1)
 
 pub view-of-spec : {M : Type 1} → statement M
 view-of-spec =
@@ -42,10 +19,7 @@ view-of-spec =
     (λ c. search needs)
     (λ c κs. search needs)
     returns
-    count-ands-requires
-    given-fault-requires
-    returns-2
-    view-checked-requires
+    view-opened-requires
     (λ c. search needs)
     (λ c. search needs)
-    returns-3)
+    (λ c. search needs))

@@ -1,0 +1,4 @@
+pub mod GroupLaws
+pub mod FamilyLaws
+pub mod Demands
+pub mod Example
