@@ -161,7 +161,7 @@ def problems():
 
     count = len(orders()[0])
     numbers = [int(n) for n in re.findall(r"^#define BAKEBUTTON_REFUSED_\w+ (\d+)$", HEADER, re.M)]
-    if numbers != list(range(1, count + 1)):
+    if numbers != list(range(1, count + 1)) or sorted(orders()[0]) != numbers:
         yield f"the refusals' numbers are {numbers}, and there are {count} in the one order"
     table = {int(n): flat(text) for n, text in re.findall(r"^ \*\s+(\d+)   (\w.*)$", HEADER, re.M)}
     if list(table) != numbers:

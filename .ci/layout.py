@@ -5,7 +5,8 @@
 - A public call is a function whose comment begins "PUBLIC.". Each such mark has its function, none has a `requires`, each cites `does (`
   in its promise (a question to a reader `read-as (`), and docs/STATEMENTS.md has exactly these functions in its table.
 - The closed list of public calls (crates/demands/specs/Public.antt) is that of the sources: the call that a public function promises stands
-  in it, every call in it is promised by one, and docs/STATEMENTS.md has exactly these calls in its table.
+  in it, whole; every call in it is promised by one; no name stands for two calls; a call that reads a circuit file is in OnFile; and
+  docs/STATEMENTS.md has exactly these calls in its table.
 - No function over a Reader that a caller outside can reach has a `requires`: anybody can make a Reader.
 - Every must-fail edit says in its first line what wrong program it is, and each text that it changes stands once where it says.
 - Sources are in the toolchain's layout (`rt fmt --check`).
@@ -59,25 +60,64 @@ def public_calls():
             yield path, found and found.group(1), head(lines, after)
 
 
-CALL = re.compile(r"^(?:unfoldable|abbrev) pub (\S+) :.*→ Call$", re.M)
-LISTED = re.compile(r"^  \S+ :.*→ \w+ \((\w+)", re.M)
+DECLARED = re.compile(r"^[ ]*(?:(?:unfoldable|abbrev)[ ]+)*pub[ ]+(\S+) :([^\n]*(?:\n[ ]+[^\n]*)*)", re.M)
+DATA = re.compile(r"^pub data (\w+) : Call → Type 0 where\n((?:[ ]+[^\n]*\n?)*)", re.M)
+MEMBER = re.compile(r"^  \S+ : (.*) → \w+ \((\S+)((?: \w+)*)\)$", re.M)
+PROMISED = re.compile(r"\bdoes \(([^\s()]+)|\bTells .*\(([A-Z][^\s()]*) |λ f\. ([^\s()]+)")
 CALLS_ROW = re.compile(r"^\| \[`(\w+)`\]\(\.\./crates/[^)]+/specs/[^)]+\.antt\)", re.M)
+
+
+def defined_calls():
+    """Each definition into Call, with its text: a name that occurs twice is there twice."""
+    for path in sorted((ROOT / "crates").rglob("*.antt")):
+        text = re.sub(r"--.*", "", path.read_text())
+        for found in DECLARED.finditer(text):
+            if re.search(r"(?:^|→)\s*Call\s*$", found.group(2).split("\nunfolding")[0]):
+                body = text[found.end():]
+                yield found.group(1), body[:body.find("\n\n")] if "\n\n" in body else body
+
+
+def closed_list():
+    """The calls of each type that Public takes in. A member is a call on variables that are its own, each once."""
+    types = dict(DATA.findall(re.sub(r"[ ]*--.*", "", (ROOT / "crates" / "demands" / "specs" / "Public.antt").read_text())))
+    inside = {"Public"} | set(re.findall(r"→ (\w+) c → Public c$", types["Public"], re.M))
+    for name in sorted(inside):
+        for binders, call, words in MEMBER.findall(types[name]):
+            bound = [word for group in re.findall(r"\(([^:()]*) :", binders) for word in group.split()]
+            yield name, call, words.split() == bound and len(set(bound)) == len(bound)
 
 
 def call_problems():
     """Of the closed list of public calls, against what public functions promise and against the map's table of calls."""
-    calls = {name for path in (ROOT / "crates").glob("*/specs/*.antt") for name in CALL.findall(path.read_text())}
-    listed_calls = set(LISTED.findall((ROOT / "crates" / "demands" / "specs" / "Public.antt").read_text()))
+    where = "crates/demands/specs/Public.antt"
+    bodies = {}
+    for name, body in defined_calls():
+        if name in bodies:
+            yield f"two calls are named {name}"
+        bodies[name] = body
+    for path in sorted((ROOT / "crates").rglob("*.antt")) + sorted((ROOT / "crates").rglob("*.rt")):
+        for name in re.findall(r"[\w-]+ as ([\w′″-]+)[,}]", path.read_text()):
+            if name in bodies:
+                yield f"{path.relative_to(ROOT)} brings another thing in as {name}, which is a call"
+    listed_calls = set()
+    for kind, call, whole in closed_list():
+        listed_calls.add(call)
+        if call not in bodies or not whole:
+            yield f"{where}: {call} is no call, or not on variables of its own"
+        elif kind != "OnFile" and re.search(r"(?:header|file)-checks", bodies[call]):
+            yield f"{where}: {call} reads a circuit file and is not in OnFile, whose checks stand in the one order"
     promised = set()
     for path, name, contract in public_calls():
-        own = calls & set(re.findall(r"\w+", re.sub(r"^.*?\bensures\b", "", contract, flags=re.S)))
+        ensures = re.sub(r"//.*", "", re.sub(r"^.*?\bensures\b", "", contract, count=1, flags=re.S))
+        own = {call for found in PROMISED.findall(ensures) for call in found if call}
         if name is not None and not own:
-            yield f"{path}: public call {name} promises no call that is defined"
+            yield f"{path}: public call {name} promises no call"
         for call in sorted(own - listed_calls):
-            yield f"{path}: {name} promises {call}, which is not in the closed list of crates/demands/specs/Public.antt"
-        promised |= own
+            yield f"{path}: {name} promises {call}, which is not in the closed list of {where}"
+        if name != "bakebutton_sizes":  # made of the check's answer, and no call
+            promised |= own
     for call in sorted(listed_calls - promised):
-        yield f"crates/demands/specs/Public.antt: no public function promises {call}"
+        yield f"{where}: no public function promises {call}"
     rows = set(CALLS_ROW.findall(public_section()))
     for call in sorted(listed_calls ^ rows):
         yield f"docs/STATEMENTS.md: {call} is " + ("not in its table of calls" if call in listed_calls else "in its table of calls, and not in the closed list")

@@ -1,5 +1,5 @@
 -- The three demands of 00, a theorem for each sentence, about the whole calls of scope/specs/Calls.antt. Nothing else is here. What is said
--- of bits holds of every family of numbers with the laws (scope/proofs, Demand1.antt to Figures.antt, under the same names).
+-- of bits in demands 2 and 3 holds of every family of numbers with the laws (scope/proofs, Demand2.antt to Figures.antt, under these names).
 -- `does c` is the answer of call c, what it returns, and every lent buffer afterwards; `buffer k c` is lent buffer k afterwards;
 -- `Accepts c` says that its answer is no refusal. Assumes nothing.
 use mathlib.Core.Path.{_≡_}
@@ -42,7 +42,7 @@ refused-exactly = laws.Demand1.refused-exactly
 pub accepted-exactly : (c : Call) → Accepts c ↔ ((k P : ℕ) → ¬ Holds (check (c .checks) k .row) P)
 accepted-exactly = laws.Demand1.accepted-exactly
 
--- "in one fixed order": each check of a call on a circuit file gives one number, and they stand as in the one order,
+-- "in one fixed order": each check of a call on a circuit file, or on a job with one, gives one number, and they stand as in the one order,
 pub checks-stand-in-one-order : (c : Call) → OnFile c → InOneOrder fixed-order (c .checks)
 checks-stand-in-one-order = ordered
 

@@ -1,5 +1,5 @@
--- Every public call, as a closed list, held to the sources by the gate: the call of a function that is marked PUBLIC stands here, and no other.
---     OnFile         the calls on a circuit file, document 01's;  fixed-order: the one order of their checks
+-- The calls that public functions promise, as a closed list, held to the sources by the gate.
+--     OnFile         the calls on a circuit file, or on a job with one: document 01's;  fixed-order: the one order of their checks
 --     Public         all of them
 use mathlib.Core.List.{List, [], _∷_}
 use Prim.Native.Nat.{ℕ}

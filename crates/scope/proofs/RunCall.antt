@@ -121,11 +121,11 @@ module _ (F : Family) (f x t l outs tr st : List ℕ) (a : Accepts (RunOf F f x 
   run-does-of = accepts-does the-run a
 
   -- a run that nobody stops, and one that is stopped
-  quiet-run : stop R C X D E ≡ C .outs
+  pub quiet-run : stop R C X D E ≡ C .outs
       → does the-run ≡ record { answer = good []; returned = []; lent = outputs R C X D E (C .outs) ∷ fill tr (transcript R C X D E) ∷ store (after R C X D E (C .gates)) ∷ [] }
   quiet-run e = run-does-of ∙ ran-quiet-of R C X D E outs tr e
 
-  stopped-run : stop R C X D E < C .outs
+  pub stopped-run : stop R C X D E < C .outs
       → does the-run ≡ record {
         answer = abort (stop R C X D E) (objects R C X D E (stop R C X D E));
         returned = [];

@@ -7,14 +7,14 @@ use mathlib.Core.Bool.{Bool, true, false, cond}
 use mathlib.Core.List.{List, [], _∷_, map}
 use Prim.Native.Nat.{ℕ, _*_}
 use native.Mathlib.Omega.{arith}
-use lib.ListN.{length, length-append}
-use lib.Dec.{eqb, ltb}
+use lib.ListN.{length, getD, length-append}
+use lib.Dec.{eqb}
 use borrow.Author.Tests.{eqb-true, ne-eqb}
 use Rattle.sharing.specs.Ops.{Ops}
 use Rattle.sharing.specs.Sites.{of}
 use Rattle.sharing.specs.Circuit.{Circuit, Draws, Errors, no-errors, wires}
 use Rattle.sharing.specs.Steps.{Wire}
-use Rattle.sharing.specs.Run.{after, stop, opens-delivered, made, transcript, outputs}
+use Rattle.sharing.specs.Run.{after, made, transcript}
 use Rattle.sharing.specs.Tapes.{read}
 use Rattle.sharing.specs.Line.{at-output, errors}
 use Rattle.sharing.specs.Store.{store, fill}
@@ -26,12 +26,14 @@ use Rattle.sharing.proofs.TapeLaws.{tapes-length}
 use Rattle.scope.specs.File.{site-of}
 use Rattle.scope.specs.Answer.{refused, After}
 use Rattle.scope.specs.Checks.{line-want, Verdict, accepted, refuses, verdict}
-use Rattle.scope.specs.Calls.{Call, Open, GateAt, OwnerAt, OutputAt, CheckOf, TrafficOf, PlainOf, RunOf, ViewOf, RetapeOf, Listing, ran-of, does, Accepts, at-wire, both-plain-of, work-room-of}
+use Rattle.scope.specs.Calls.{Call, Open, GateAt, OwnerAt, OutputAt, CheckOf, TrafficOf, PlainOf, RunOf, ViewOf, RetapeOf, Listing, does, Accepts, at-wire, both-plain-of, work-room-of}
 use Rattle.scope.specs.Statements.{circuit-with, Family, Fitting}
 use Rattle.scope.proofs.FamilyLaws.{Lawful, group, draws-ok}
 use Rattle.scope.proofs.Refusals.{Passes}
 use Rattle.scope.proofs.RowLaws.{sizes-clear}
-use Rattle.scope.proofs.CallLaws.{accepts-passes, does-good, does-refused, verdict-refused, verdict-accepts}
+use Rattle.scope.proofs.CallLaws.{accepts-passes, accepts-does, does-good, does-refused, verdict-refused, verdict-accepts}
+use Rattle.scope.proofs.RunCall.{quiet-run, stopped-run, quiet-or-stopped}
+use Rattle.scope.proofs.RetapeCall.{retape-does}
 use Rattle.scope.proofs.Accepted.{run-ok-of, view-ok-of, retape-ok, refused-13}
 
 abbrev sizes : List (List ℕ) → List ℕ
@@ -57,18 +59,6 @@ plain-ok F f x vs a =
     let h = accepts-passes (PlainOf F f x vs) a in
     sizes-clear (length vs ∷ []) (wires (circuit-with F f) ∷ []) 1 (h .1 .1 .1 .1 .1 .1 .1 .0) 0 (omega arith)
 
-ran-lengths : (R : Ops) (C : Circuit) (x : ℕ → ℕ) (T : Draws) (E : Errors) (outs tr st : List ℕ)
-    → length outs ≡ 3 * C .outs → at-output C (C .outs) ≡ length tr → length st ≡ 6 * wires C → sizes (ran-of R C x T E outs tr .lent) ≡ sizes (outs ∷ tr ∷ st ∷ [])
-unfolding ran-of transcript at-output
-ran-lengths R C x T E outs tr st ho ht hs =
-    let m = made-le R C x T E in
-    let w = sent-length R C x T E (made R C x T E) in
-    three (either (ltb (stop R C x T E) (C .outs))) (fill-length tr (opens-delivered R C x T E (made R C x T E)) (omega arith)) (store-long R C x T E ∙ sym hs)
-  where
-    either : (b : Bool) → length (cond b outs (outputs R C x T E (C .outs))) ≡ length outs
-    either true = refl
-    either false = outputs-length R C x T E (C .outs) ∙ sym ho
-
 module _ (F : Family) (law : Lawful F) where
   pub both-length : (C : Circuit) (x y : List ℕ) → length (both-plain-of F C x y) ≡ 2 * wires C
   unfolding both-plain-of
@@ -89,10 +79,21 @@ module _ (F : Family) (law : Lawful F) where
 
   pub run-lengths : (f x t l outs tr st : List ℕ) → Fitting F x → Fitting F t → Fitting F l → let c = RunOf F f x t l outs tr st in
       Accepts c → sizes (c .good .lent) ≡ sizes (c .buffers)
-  unfolding RunOf
+  unfolding RunOf at-output transcript
   run-lengths f x t l outs tr st fx ft fl a =
+      let C = circuit-with F f in
+      let D : Draws = read C t in
+      let E : Errors = errors C l in
       let k = run-ok-of F law f x t l outs tr st fx ft fl a in
-      ran-lengths (F .ops) (circuit-with F f) (at-wire x) (read (circuit-with F f) t) (errors (circuit-with F f) l) outs tr st (k .outs-long) (line-end (circuit-with F f) ∙ sym (k .tr-long)) (k .st-long)
+      let told : length (fill tr (transcript (F .ops) C (at-wire x) D E)) ≡ length tr =
+      let m = made-le (F .ops) C (at-wire x) D E in
+      let w = sent-length (F .ops) C (at-wire x) D E (made (F .ops) C (at-wire x) D E) in
+      let e = line-end C in let h = k .tr-long in fill-length tr _ (omega arith) in
+      let kept = store-long (F .ops) C (at-wire x) D E ∙ sym (k .st-long) in
+      ap (λ (z : After). sizes (z .lent)) (sym (accepts-does (RunOf F f x t l outs tr st) a))
+      ∙ quiet-or-stopped F f x t l outs tr st a
+      (λ e. ap (λ (z : After). sizes (z .lent)) (quiet-run F f x t l outs tr st a e) ∙ three (outputs-length (F .ops) C (at-wire x) D E (C .outs) ∙ sym (k .outs-long)) told kept)
+      (λ h. ap (λ (z : After). sizes (z .lent)) (stopped-run F f x t l outs tr st a h) ∙ three refl told kept)
 
   pub view-lengths : (f x t : List ℕ) (s : ℕ) (v st : List ℕ) → Fitting F x → Fitting F t → let c = ViewOf F f x t s v st in
       Accepts c → sizes (c .good .lent) ≡ sizes (c .buffers)
@@ -107,8 +108,12 @@ module _ (F : Family) (law : Lawful F) where
   unfolding RetapeOf
   retape-lengths f x t y s nt wr fx ft fy a =
       let k = retape-ok F law f x t y s nt wr fx ft fy a in
-      two (new-length (group F law) (site-of s) (circuit-with F f) (at-wire x) (at-wire y) t ∙ tapes-length (circuit-with F f) ∙ sym (k .given .nt-long))
-      (room-length (circuit-with F f) x t y s ∙ sym (k .given .wr-long))
+      let C = circuit-with F f in
+      let c = RetapeOf F f x t y s nt wr in
+      let new : length (getD (c .good .lent) 0 []) ≡ length nt
+      = ap (λ (z : After). length (getD (z .lent) 0 [])) (sym (accepts-does c a))
+      ∙ ap length (retape-does F f x t y s nt wr a) ∙ new-length (group F law) (site-of s) C (at-wire x) (at-wire y) t ∙ tapes-length C ∙ sym (k .given .nt-long) in
+      two new (room-length C x t y s ∙ sym (k .given .wr-long))
 
   -- at 13 a work room of 4W bytes is filled to 2W
   pub room-13 : (f x t y : List ℕ) (s : ℕ) (nt wr : List ℕ) (p : ℕ) → Fitting F x → Fitting F t → Fitting F y → does (RetapeOf F f x t y s nt wr) .answer ≡ refused 13 p

@@ -1,8 +1,8 @@
 -- What a call is.
---     Call             a call with all that it is given and lent: the fields are read from top to bottom
+--     Call             a call, on all that it is given: the fields are read from top to bottom
 --     does             the whole call;  Accepts: it refuses nothing;  buffer: what it leaves in a buffer
 --     changes-nothing, gives-back, but-at    what calls do at a refusal
---     tells, fills, gives                    good calls that only tell numbers, only fill their buffers, only return something;  answers: any such answer
+--     tells, fills, gives                    good calls that only tell numbers, only fill their buffers, only return something;  answers: an answer alone
 -- A call is a definition into Call, in a file or a crate of its own; what is proved of all calls holds of it.
 use mathlib.Core.Path.{_≡_}
 use mathlib.Core.Bool.{cond}

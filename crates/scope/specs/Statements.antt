@@ -1,5 +1,5 @@
 -- Words of the demands that are no part of a call: what the theorems about whole calls speak of.
---     Bits              a slice of the wanted length, each byte 0 or 1
+--     Bits, Numbers, ..  of Family.antt, passed on
 --     Clean             "an undisturbed line"
 --     copies-of         the two copies that a site gets at an output, in a run on a line
 --     Alike             at an output every site gets the same bit twice
@@ -11,7 +11,7 @@
 use mathlib.Core.Path.{_≡_}
 use mathlib.Core.List.{List, [], _∷_, _++_}
 use Prim.Native.Nat.{ℕ, zero, suc, _*_, _<_}
-use lib.ListN.{length, getD, take, drop}
+use lib.ListN.{getD, take, drop}
 use Rattle.sharing.specs.Sites.{Site, sites-before, of}
 use Rattle.sharing.specs.Circuit.{Circuit, wires}
 use Rattle.sharing.specs.Steps.{Pair}

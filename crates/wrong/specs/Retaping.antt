@@ -52,11 +52,11 @@ ViewMeetsOn engine file inputs tapes site view store =
     let z = engine file inputs tapes site view store in
     ViewMeets file inputs tapes site view store (z .0) (z .1) (z .2)
 
--- what `does` is (scope/specs/Calls.antt), with another order of all checks in the place of the one order
 unfoldable pub having : ℕ → List Refusal → List Refusal
 having n [] = []
 having n (c ∷ cs) = cond (eqb (c .number 0) n) (c ∷ having n cs) (having n cs)
 
+-- what `does` is (scope/specs/Call.antt), with the checks of a call in another order of their numbers
 abbrev pub in-order : List ℕ → Call → After
 in-order ns c = settle c (verdict (flatMap (λ n. having n (c .checks)) ns))
 
