@@ -1,10 +1,13 @@
-"""Holds include/bakebutton.h to the Rattle sources.
+"""Holds include/bakebutton.h, and the Rust crate over it, to the Rattle sources.
 
 - Every exported function of crates/panel is declared, with the parameters and the result that its own text has, and no other is.
 - Every struct that goes out (crates/told, #[repr(C)]) has the same members, of the same types, in the same order.
 - Good, abort, the refusals' numbers, the order of checks and what each call checks are those of crates/scope/specs and crates/demands/specs.
 - Limits, kinds, the job's and the text's lengths are those of the code that tests them.
 - Each length's macro gives what told::sizes_from and the header's own check compute, and each _MAX what the largest circuit needs.
+- The header defines no function but bakebutton_words, which .ci/words.py tries.
+- The Rust crate declares functions of the header, structs of the same members, and the same numbers.
+- VERSION is the version of the header, of CHANGES.md's first part and of the Rust crates; KIT names one kit.
 """
 
 import pathlib
@@ -129,6 +132,60 @@ def macro(name, **numbers):
     return eval(text, {}, {name.strip(): numbers[name.strip()] for name in parameters.split(",")})
 
 
+# What the Rust crate says, and which version each file.
+
+RUST = "examples/rust/bakebutton/src/lib.rs"
+IN_RUST = {"const uint8_t *": "*const u8", "uint8_t *": "*mut u8", "size_t ": "usize", "uint8_t ": "u8", "uint16_t ": "u16", "uint32_t ": "u32"}
+
+
+def in_rust(declared):
+    """A parameter or member of C's as Rust has it."""
+    kind, name, arrays = re.fullmatch(r"(.*?[ *])(\w+)((?:\[\d\])*)", declared).groups()
+    told = IN_RUST[kind]
+    for length in re.findall(r"\d", arrays):
+        told = f"[{told}; {length}]"
+    return f"{name}: {told}"
+
+
+def camel(name):
+    return "".join(word.capitalize() for word in name.split("_")[1:])
+
+
+def rust_problems(wanted, given):
+    text = source(RUST)
+    for name, parameters, result in re.findall(r"pub fn (bakebutton_\w+)\(([^)]*)\) -> (\w+);", text):
+        declared = re.fullmatch(r"struct (\w+) \w+\((.*)\) BAKEBUTTON_LOOK;", wanted.get(name, ""))
+        told = declared and (", ".join(map(in_rust, declared.group(2).split(", "))), camel(declared.group(1)))
+        if (parameters, result) != told:
+            yield f"{RUST}: {name} is declared as {parameters} -> {result}"
+    for name, members in given.items():
+        found = re.search(rf"#\[repr\(C\)\]\n    pub struct {camel(name)} \{{([^}}]*)\}}", text)
+        if not found or re.findall(r"pub (\w+: [^,]+),", found.group(1)) != list(map(in_rust, members)):
+            yield f"{RUST}: {camel(name)} has not the members {members}"
+    for name in ("GOOD", "ABORT", "TEXT_BYTES"):
+        if f"const {name}: usize = {defined(name)};" not in text:
+            yield f"{RUST}: {name} is not {defined(name)}"
+
+
+def version_problems():
+    version = source("VERSION").strip()
+    if not re.fullmatch(r"\d+\.\d+\.\d+", version):
+        yield f"VERSION is '{version}'"
+        return
+    if f'\n#define BAKEBUTTON_VERSION "{version}"\n' not in HEADER:
+        yield f"BAKEBUTTON_VERSION is not \"{version}\""
+    for name, number in zip(("MAJOR", "MINOR", "PATCH"), version.split(".")):
+        if defined("VERSION_" + name) != int(number):
+            yield f"BAKEBUTTON_VERSION_{name} is not {number}"
+    if re.findall(r"^## (.*)$", source("CHANGES.md"), re.M)[:1] != [version]:
+        yield f"CHANGES.md does not begin with {version}"
+    for path in ("examples/rust/bakebutton/Cargo.toml", "examples/rust/example/Cargo.toml"):
+        if f'\nversion = "{version}"\n' not in source(path):
+            yield f"{path} has not the version {version}"
+    if not re.fullmatch(r"\S.*\S\n", source("KIT")):
+        yield "KIT is not one line that names a kit"
+
+
 def comment_before(declaration):
     """The comment right before a declaration."""
     head = HEADER[:HEADER.index(declaration)]
@@ -137,7 +194,7 @@ def comment_before(declaration):
 
 def problems():
     declared = {}
-    for text in re.findall(r"^[a-z][\w ]*bakebutton_\w+\([^;{]*;", HEADER, re.M):
+    for text in re.findall(r"^(?!static )[a-z][\w ]*bakebutton_\w+\([^;{]*;", HEADER, re.M):
         declared[re.search(r"(bakebutton_\w+)\(", text).group(1)] = text
     wanted = dict(prototypes())
     for name in sorted(set(declared) ^ set(wanted)):
@@ -146,12 +203,17 @@ def problems():
         if flat(declared[name]) != wanted[name]:
             yield f"{name} should be declared: {wanted[name]}"
 
+    if re.findall(r"^\S.*\b(\w+)\([^;]*\)\n\{$", HEADER, re.M) != ["bakebutton_words"]:
+        yield "it defines a function besides bakebutton_words"
+
     found = {name: [flat(member) for member in body.strip().rstrip(";").split(";")]
              for name, body in re.findall(r"^struct (\w+) \{([^}]*)\};", HEADER, re.M)}
     given = dict(structs())
     for name in sorted(set(found) | set(given)):
         if found.get(name) != given.get(name):
             yield f"struct {name} is {found.get(name)}, and goes out as {given.get(name)}"
+    yield from rust_problems(wanted, given)
+    yield from version_problems()
 
     answers = source("crates/scope/specs/Answer.antt")
     for case, name in (("good vs", "GOOD"), ("abort o m", "ABORT")):
@@ -244,7 +306,7 @@ def problems():
 def main():
     found = list(problems())
     for problem in found:
-        print("include/bakebutton.h: " + problem)
+        print("header: " + problem)
     if found:
         sys.exit(1)
     print("header ok")

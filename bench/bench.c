@@ -1,4 +1,4 @@
-/* Times the proved engine (libpanel.a) beside the plain one (engine.c), call by call, in one process.
+/* Times the proved engine (libbakebutton.a) beside the plain one (engine.c), call by call, in one process.
 
        bench [ratios]
        bench call CIRCUIT CALL ENGINE

@@ -23,7 +23,7 @@ RENAMED = [f"-Dbakebutton_{call}=plain_{call}" for call in ("check", "run", "vie
 
 
 def main():
-    if subprocess.run([door.tool("library")]).returncode:
+    if subprocess.run([door.tool("library")], stdout=subprocess.DEVNULL).returncode:
         door.fail("the library could not be built")
     with tempfile.TemporaryDirectory() as folder:
         engine = os.path.join(folder, "engine.o")

@@ -2,9 +2,9 @@
 
     python3 -B evaluator/door.py
 
-makes the calls of the stored stream (crates/trials/stdin) but those to a reader, and drawn ones, through target/staticlib/libpanel.a, with every slice in memory of
-its own beside memory that may not be touched (door.c), and C's side under the compiler's sanitizers where they can be had. What is printed
-must be the evaluator's text.
+makes the calls of the stored stream (crates/trials/stdin) but those to a reader, and drawn ones, through target/lib/libbakebutton.a, with every
+slice in memory of its own beside memory that may not be touched (door.c), and C's side under the compiler's sanitizers where they can be had.
+What is printed must be the evaluator's text.
 """
 
 import os
@@ -21,7 +21,7 @@ import damage  # noqa: E402
 import trials  # noqa: E402
 
 ROOT = os.path.join(check.HERE, os.pardir)
-LIBRARY = os.path.join(ROOT, "target", "staticlib", "libpanel.a")
+LIBRARY = os.path.join(ROOT, "target", "lib", "libbakebutton.a")
 SOURCES = ["door.c", "circuit.c", "stream.c"]
 CASES = 4000
 SEED = 20267
@@ -60,7 +60,7 @@ def drawn():
 
 
 def main():
-    if subprocess.run([tool("library")]).returncode:
+    if subprocess.run([tool("library")], stdout=subprocess.DEVNULL).returncode:
         fail("the library could not be built")
     streams = {"stored": trials.stored_for_c()}
     with tempfile.TemporaryDirectory() as folder:

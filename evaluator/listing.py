@@ -3,8 +3,10 @@
     python3 -B evaluator/listing.py
 
 tools/listing proves, builds and runs the program on job files; what it prints
-must be the evaluator's text.  The program's own stdin must be job K1, and its
-stdout what document 01 says.
+must be the evaluator's text, from a file and, for some, from standard input.
+A refused job must end with status 1 and the table's words for its number and
+place on standard error, any other with status 0 and nothing there.  The
+program's own stdin must be job K1, and its stdout what document 01 says.
 """
 
 import os
@@ -19,6 +21,7 @@ import check  # noqa: E402
 
 ROOT = os.path.join(check.HERE, os.pardir)
 CRATE = os.path.join(ROOT, "crates", "bakebutton")
+PIPED = ["far longer", "a byte above 1"]
 K1 = b"inputs 2 gates 1 outputs 1\nbits 23\nout 0 1\nend\n"
 
 
@@ -60,25 +63,48 @@ def wanted(program, job):
     return "".join(line[2:] + "\n" for line in lines[1:]).encode()
 
 
-def printed(folder, job):
-    path = os.path.join(folder, "job")
-    with open(path, "wb") as file:
-        file.write(job)
-    return subprocess.run([os.path.join(ROOT, "tools", "listing"), path],
-                          stdout=subprocess.PIPE, check=True).stdout
+def tool(name, words, given=b""):
+    return subprocess.run([os.path.join(ROOT, "tools", name), *words],
+                          input=given, stdout=subprocess.PIPE,
+                          stderr=subprocess.PIPE)
+
+
+def due(text):
+    """Status, text and what is said on standard error, by the text."""
+    if not text.startswith(b"refused "):
+        return 0, text, b""
+    _, number, place = text.decode().split()
+    words = tool("words", [number, place]).stdout
+    return 1, text, f"listing: refused {number} {place}: ".encode() + words
+
+
+def told(*words, given=b""):
+    done = tool("listing", words, given)
+    return done.returncode, done.stdout, done.stderr
 
 
 def main():
     every = jobs()
     if stored("stdin") != every["K1"] or stored("stdout") != K1:
         fail("crates/bakebutton: stdin is not job K1, or stdout not 01's text")
+    listing = [os.path.join(ROOT, "tools", "listing"), "-"]
+    if subprocess.run(listing, input=every["K1"],
+                      stdout=subprocess.DEVNULL).returncode:
+        fail("the program could not be proved or run")
     with tempfile.TemporaryDirectory() as folder:
         program = check.compiled(folder, "evaluator",
                                  [*check.SOURCES, "stream.c"], ["-O2"])
         for name, job in every.items():
-            if printed(folder, job) != wanted(program, job):
-                fail(f"another text for the job '{name}'")
-    print(f"listing ok, {len(every)} jobs")
+            path = os.path.join(folder, "a job")
+            with open(path, "wb") as file:
+                file.write(job)
+            answer = due(wanted(program, job))
+            if told(path) != answer:
+                fail(f"another answer for the job '{name}'")
+            if name in PIPED and told("-", given=job) != answer:
+                fail(f"another answer for the job '{name}' as standard input")
+    print(f"listing ok, {len(every)} jobs, {len(PIPED)} of them as standard "
+          "input too")
 
 
 if __name__ == "__main__":

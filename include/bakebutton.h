@@ -5,7 +5,8 @@
  * keys and clocks stay with you: what goes in and comes out are buffers of yours. docs/FORMAT.md has the file, the slices, the
  * buffers and the refusals byte by byte; the numbers here are held to the proved sources by the project's own check.
  *
- * Build: `rt staticlib panel` writes target/staticlib/libpanel.a; `cc -Iinclude yours.c target/staticlib/libpanel.a`. x86-64 Linux.
+ * Build: `tools/library` writes libbakebutton.a and .so in target/lib; `cc -Iinclude yours.c target/lib/libbakebutton.a`. `tools/install
+ * PREFIX` puts both and this header under a prefix. x86-64 Linux.
  *
  * THE ANSWER of every call is a struct, by value. Its first two members are always number and place:
  *
@@ -16,7 +17,7 @@
  *     number 1 to 14                 a refusal: something that you gave does not hold; the table below says what, place says where.
  *                                    Every buffer is as it was before the call (but see 13).
  *
- * There are no other numbers. A member that has nothing to say is 0.
+ * There are no other numbers. A member that has nothing to say is 0. bakebutton_words, at the end, puts a number and a place in words.
  *
  * REFUSALS. Bits are bytes, 0 or 1. I, G, O are a circuit's inputs, gates and outputs, W = I + G its wires.
  *
@@ -66,6 +67,13 @@ extern "C" {
 #else
 #define BAKEBUTTON_LOOK
 #endif
+
+/* ---- Version of this header and of the library that it came with */
+
+#define BAKEBUTTON_VERSION "0.1.0"
+#define BAKEBUTTON_VERSION_MAJOR 0
+#define BAKEBUTTON_VERSION_MINOR 1
+#define BAKEBUTTON_VERSION_PATCH 0
 
 /* ---- Numbers in answers */
 
@@ -274,5 +282,77 @@ struct bakebutton_listing_answer bakebutton_listing(const uint8_t *job, size_t j
 #ifdef __cplusplus
 }
 #endif
+
+/* ---- Words for a person */
+
+/* So many bytes hold the longest words and their zero. */
+#define BAKEBUTTON_WORDS_BYTES 256
+
+/* What a number and a place mean. asked is not 0 where they are the answer of bakebutton_owner, bakebutton_gate or bakebutton_output, whose
+ * place at 4, 5 and 6 is a count. As snprintf does, it writes at most room bytes, the last of them a zero, and returns how many there are
+ * without it; text may be null where room is 0. There are no words, and 0 is returned, for a number and a place that no call answers. Not
+ * proved, and in no library: it is compiled with your program. */
+static inline size_t bakebutton_words(char *text, size_t room, size_t number, size_t place, int asked)
+{
+    static const struct {
+        size_t number;
+        long place; /* -1 is any */
+        int asked;
+        const char *words; /* # stands for the place */
+    } rows[] = {
+        /* Made by tools/words from include/words.txt: */
+        {4, -1, 1, "there is no such input: the circuit has #"},
+        {5, -1, 1, "there is no such gate: the circuit has #"},
+        {6, -1, 1, "there is no such output: the circuit has #"},
+        {0, 0, 0, "good"},
+        {1, 0, 0, "the file has under 32 bytes"},
+        {2, 0, 0, "there are more than 1,024 inputs"},
+        {2, 1, 0, "there are more than 3,072 gates"},
+        {2, 2, 0, "there are more than 256 outputs"},
+        {3, 0, 0, "the length in the header is not that of the file, or not what its counts ask for"},
+        {3, 16, 0, "the offset of the owners in the header is not 32"},
+        {3, 20, 0, "the offset of the gates in the header is not where the owners end"},
+        {3, 24, 0, "the offset of the outputs in the header is not where the gates end"},
+        {3, 28, 0, "the last field of the header is not zero"},
+        {4, -1, 0, "the owner of input # is not 1, 2 or 3"},
+        {5, -1, 0, "gate # is wrong: its kind is unknown, it reads a wire that is not lower than its own, or it is a NOT whose second number is not 0"},
+        {6, -1, 0, "output # is no wire of the circuit"},
+        {7, -1, 0, "the inputs are not # bytes long, or byte # of them is above 1"},
+        {8, -1, 0, "the tapes are not # bytes long, or byte # of them is above 1"},
+        {9, -1, 0, "the line is not # bytes long, or byte # of it is above 1"},
+        {10, -1, 0, "lent buffer # has not exactly its length"},
+        {11, 0, 0, "the site is not 1, 2 or 3"},
+        {12, -1, 0, "the second inputs are not # bytes long, or byte # of them is above 1"},
+        {13, -1, 0, "no such tapes exist: input # is the site's own and differs or, if # is not below the number of inputs, the bit opened at output # less that number differs"},
+        {14, 0, 0, "the job has under 16 or over 41,520 bytes, or is not as long as its first number says"},
+        {14, 4, 0, "the circuit of the job does not begin at 16"},
+        {14, 8, 0, "the inputs of the job begin before 16 or behind its end"},
+        {14, 12, 0, "the tapes of the job begin before its inputs or behind its end"},
+        {100, -1, 0, "some site got two unlike copies at output #: the run stopped there, and nothing is to be shown"},
+        /* So far tools/words. */
+    };
+    char digits[3 * sizeof place];
+    size_t first = sizeof digits, length = 0, rest = place, row;
+    const char *from = "";
+
+    do {
+        digits[--first] = (char)('0' + rest % 10);
+        rest /= 10;
+    } while (rest > 0);
+    for (row = 0; row < sizeof rows / sizeof *rows && *from == '\0'; row++)
+        if (rows[row].number == number && (rows[row].place < 0 || (size_t)rows[row].place == place) && (asked || !rows[row].asked))
+            from = rows[row].words;
+    for (; *from != '\0'; from++) {
+        const char *piece = *from == '#' ? digits + first : from;
+        size_t bytes = *from == '#' ? sizeof digits - first : 1;
+
+        for (; bytes > 0; bytes--, piece++, length++)
+            if (length + 1 < room)
+                text[length] = *piece;
+    }
+    if (room > 0)
+        text[length < room ? length : room - 1] = '\0';
+    return length;
+}
 
 #endif

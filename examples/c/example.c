@@ -1,4 +1,4 @@
-/* The panel's three cases, on document 01's example circuit: a good run (K1), an abort (K4), a refusal. */
+/* The panel's three cases, on the example circuit of docs/PROTOCOL.md: a good run (K1), an abort (K4), a refusal. */
 #include <stdio.h>
 #include <stdlib.h>
 #include <string.h>
@@ -27,19 +27,22 @@ static void print_bits(const char *name, const uint8_t *bits, size_t length)
     putchar('\n');
 }
 
-/* An answer for a person. */
+/* An answer for a person: number, place, and what they mean. */
 static void print_answer(struct bakebutton_answer answer)
 {
+    char words[BAKEBUTTON_WORDS_BYTES];
+
+    bakebutton_words(words, sizeof words, answer.number, answer.place, 0);
     if (answer.number == BAKEBUTTON_GOOD) {
-        printf("  answer     good\n");
+        printf("  answer     %s\n", words);
     } else if (answer.number == BAKEBUTTON_ABORT) {
-        printf("  answer     abort at output %zu: two unlike copies at", answer.place);
+        printf("  answer     abort at output %zu, objecting", answer.place);
         for (unsigned site = 1; site <= 3; site++)
             if (answer.sites & BAKEBUTTON_SITE_WEIGHT(site))
                 printf(" site %u", site);
-        printf("; no outputs are handed over\n");
+        printf(": %s\n", words);
     } else {
-        printf("  answer     refused, number %zu, place %zu\n", answer.number, answer.place);
+        printf("  answer     refused %zu %zu: %s\n", answer.number, answer.place, words);
     }
 }
 
@@ -77,7 +80,10 @@ int main(void)
     struct bakebutton_sizes_answer sizes = bakebutton_sizes(circuit, sizeof circuit);
 
     if (sizes.number != BAKEBUTTON_GOOD) {
-        printf("the circuit is refused, number %zu, place %zu\n", sizes.number, sizes.place);
+        char words[BAKEBUTTON_WORDS_BYTES];
+
+        bakebutton_words(words, sizeof words, sizes.number, sizes.place, 0);
+        printf("the circuit is refused %zu %zu: %s\n", sizes.number, sizes.place, words);
         return 1;
     }
     show("K1: the AND of site 1's bit and site 2's bit, both 1, on a clean line", &sizes, -1, sizes.tapes);

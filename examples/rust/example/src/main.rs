@@ -1,7 +1,5 @@
-//! The panel's three cases, on document 01's example circuit: a good run (K1), an abort (K4), a refusal. It prints what the C example
-//! prints, and holds the wrapper's other functions to document 01's values.
-
-mod bakebutton;
+//! The panel's three cases, on the example circuit of docs/PROTOCOL.md: a good run (K1), an abort (K4), a refusal. It prints what the C example
+//! prints, and holds the wrapper's other functions to the values of the examples K1 to K12.
 
 use bakebutton::{Answer, Counts, Gate, Sizes};
 
@@ -23,18 +21,6 @@ fn signs(bits: &[u8]) -> String {
     bits.iter().map(|&bit| if bit <= 1 { (b'0' + bit) as char } else { '?' }).collect()
 }
 
-/// An answer for a person.
-fn words(answer: Answer) -> String {
-    match answer {
-        Answer::Good(()) => "good".to_string(),
-        Answer::Abort { output, sites } => {
-            let named: String = (1..=3).filter(|&site| sites.has(site)).map(|site| format!(" site {site}")).collect();
-            format!("abort at output {output}: two unlike copies at{named}; no outputs are handed over")
-        }
-        Answer::Refused { number, place } => format!("refused, number {number}, place {place}"),
-    }
-}
-
 /// A run with one bit of the line turned, or none, and tapes of a length.
 fn show(title: &str, sizes: &Sizes, turned: Option<usize>, tapes: &[u8]) {
     let mut line = vec![0; sizes.line];
@@ -46,12 +32,12 @@ fn show(title: &str, sizes: &Sizes, turned: Option<usize>, tapes: &[u8]) {
     }
     let answer = bakebutton::run(&CIRCUIT, &INPUTS, tapes, &line, &mut outputs, &mut transcript, &mut store);
     println!("{title}");
-    println!("  answer     {}", words(answer));
+    println!("  answer     {answer}");
     println!("  outputs    {}", signs(&outputs));
     println!("  transcript {}", signs(&transcript));
 }
 
-/// The other calls, against document 01's K3, K8, K9, K11 and K12 and its listing.
+/// The other calls, against K3, K8, K9, K11 and K12 and its listing.
 fn hold_to_document(sizes: &Sizes) {
     let counts = Counts { inputs: 2, gates: 1, outputs: 1 };
     assert_eq!(bakebutton::open(&CIRCUIT), Answer::Good(counts));
@@ -65,6 +51,10 @@ fn hold_to_document(sizes: &Sizes) {
     bad[38] = 2;
     assert_eq!(bakebutton::check(&bad), Answer::Refused { number: 5, place: 0 });
     assert_eq!(bakebutton::traffic(&CIRCUIT), Answer::Good([[0, 4, 5], [5, 0, 4], [2, 3, 0]]));
+
+    assert_eq!(bakebutton::gate(&CIRCUIT, 65536).to_string(), "refused 5 1: there is no such gate: the circuit has 1");
+    assert_eq!(bakebutton::open(&[]).to_string(), "refused 1 0: the file has under 32 bytes");
+    assert!(bakebutton::check(&bad).to_string().starts_with("refused 5 0: gate 0 is wrong: "));
 
     let mut values = vec![9; sizes.values];
     assert_eq!(bakebutton::plain(&CIRCUIT, &INPUTS, &mut values), Answer::Good(()));
@@ -92,7 +82,7 @@ fn hold_to_document(sizes: &Sizes) {
 fn main() {
     let sizes = match bakebutton::sizes(&CIRCUIT) {
         Answer::Good(sizes) => sizes,
-        other => panic!("the circuit is {other:?}"),
+        other => panic!("the circuit: {other}"),
     };
     hold_to_document(&sizes);
     show("K1: the AND of site 1's bit and site 2's bit, both 1, on a clean line", &sizes, None, &TAPES);

@@ -1,8 +1,9 @@
 //! Bakebutton from Rust: safe functions over the library that include/bakebutton.h declares, whose comments say what each call checks.
 //! What that header asks of C the compiler sees to here: a slice is memory that may be read, a lent one is nobody else's.
 //!
-//! Copy this file into a crate and link target/staticlib/libpanel.a (`-l static=panel`).
-#![allow(dead_code)] // no panel makes every call
+//! A crate of yours names this one by its path; build.rs says where it finds the library.
+
+use std::fmt;
 
 /// What a call answers. Only a run aborts.
 #[must_use = "an abort or a refusal hands nothing over"]
@@ -15,9 +16,106 @@ pub enum Answer<T = ()> {
     Refused { number: usize, place: usize },
 }
 
+/// Number and place, then what they mean: `refused 5 310: gate 310 is wrong: ..`.
+impl<T: Value> fmt::Display for Answer<T> {
+    fn fmt(&self, f: &mut fmt::Formatter) -> fmt::Result {
+        match *self {
+            Answer::Good(_) => f.write_str("good"),
+            Answer::Abort { output, sites } => write!(f, "abort at output {}, objecting {}: {}", output, sites, Words { number: ABORT, place: output, asked: false }),
+            Answer::Refused { number, place } => write!(f, "refused {} {}: {}", number, place, Words { number, place, asked: T::ASKED }),
+        }
+    }
+}
+
+/// What a good answer holds. The three questions by number have words of their own for refusals 4, 5 and 6, whose place is a count.
+pub trait Value {
+    const ASKED: bool = false;
+}
+
+impl Value for () {}
+impl Value for Counts {}
+impl Value for Sizes {}
+impl Value for Traffic {}
+impl Value for Gate {
+    const ASKED: bool = true;
+}
+impl Value for Owner {
+    const ASKED: bool = true;
+}
+impl Value for Wire {
+    const ASKED: bool = true;
+}
+
+/// A number and a place in words; nothing where no call answers so.
+struct Words {
+    number: usize,
+    place: usize,
+    asked: bool,
+}
+
+impl fmt::Display for Words {
+    fn fmt(&self, f: &mut fmt::Formatter) -> fmt::Result {
+        for (n, piece) in words(self.number, self.place, self.asked).split("{place}").enumerate() {
+            if n > 0 {
+                write!(f, "{}", self.place)?;
+            }
+            f.write_str(piece)?;
+        }
+        Ok(())
+    }
+}
+
+fn words(number: usize, place: usize, asked: bool) -> &'static str {
+    match (number, place) {
+        // Made by tools/words from include/words.txt:
+        (4, _) if asked => "there is no such input: the circuit has {place}",
+        (5, _) if asked => "there is no such gate: the circuit has {place}",
+        (6, _) if asked => "there is no such output: the circuit has {place}",
+        (0, 0) => "good",
+        (1, 0) => "the file has under 32 bytes",
+        (2, 0) => "there are more than 1,024 inputs",
+        (2, 1) => "there are more than 3,072 gates",
+        (2, 2) => "there are more than 256 outputs",
+        (3, 0) => "the length in the header is not that of the file, or not what its counts ask for",
+        (3, 16) => "the offset of the owners in the header is not 32",
+        (3, 20) => "the offset of the gates in the header is not where the owners end",
+        (3, 24) => "the offset of the outputs in the header is not where the gates end",
+        (3, 28) => "the last field of the header is not zero",
+        (4, _) => "the owner of input {place} is not 1, 2 or 3",
+        (5, _) => "gate {place} is wrong: its kind is unknown, it reads a wire that is not lower than its own, or it is a NOT whose second number is not 0",
+        (6, _) => "output {place} is no wire of the circuit",
+        (7, _) => "the inputs are not {place} bytes long, or byte {place} of them is above 1",
+        (8, _) => "the tapes are not {place} bytes long, or byte {place} of them is above 1",
+        (9, _) => "the line is not {place} bytes long, or byte {place} of it is above 1",
+        (10, _) => "lent buffer {place} has not exactly its length",
+        (11, 0) => "the site is not 1, 2 or 3",
+        (12, _) => "the second inputs are not {place} bytes long, or byte {place} of them is above 1",
+        (13, _) => "no such tapes exist: input {place} is the site's own and differs or, if {place} is not below the number of inputs, the bit opened at output {place} less that number differs",
+        (14, 0) => "the job has under 16 or over 41,520 bytes, or is not as long as its first number says",
+        (14, 4) => "the circuit of the job does not begin at 16",
+        (14, 8) => "the inputs of the job begin before 16 or behind its end",
+        (14, 12) => "the tapes of the job begin before its inputs or behind its end",
+        (100, _) => "some site got two unlike copies at output {place}: the run stopped there, and nothing is to be shown",
+        // So far tools/words.
+        _ => "",
+    }
+}
+
 /// Objecting sites: a sum of 1, 2 and 4 for sites 1, 2 and 3.
 #[derive(Clone, Copy, Debug, PartialEq, Eq)]
 pub struct Sites(pub usize);
+
+/// `site 2`, or `sites 1 and 3`.
+impl fmt::Display for Sites {
+    fn fmt(&self, f: &mut fmt::Formatter) -> fmt::Result {
+        let mut before = if self.0.count_ones() > 1 { "sites " } else { "site " };
+        for site in (1..=3).filter(|&site| self.has(site)) {
+            write!(f, "{}{}", before, site)?;
+            before = " and ";
+        }
+        Ok(())
+    }
+}
 
 impl Sites {
     pub fn has(self, site: usize) -> bool {
@@ -38,6 +136,15 @@ pub struct Gate {
     pub first: u16,
     pub second: u16,
 }
+
+/// The site that owns an input, as it is stored.
+pub type Owner = u8;
+
+/// The wire of an output, as it is stored.
+pub type Wire = u16;
+
+/// How many bits site s sends to site r: `[s - 1][r - 1]`.
+pub type Traffic = [[u32; 3]; 3];
 
 /// The length of each slice and buffer, by its name in the calls; `view[s - 1]` is that of site s.
 #[derive(Clone, Copy, Debug, PartialEq, Eq)]
@@ -61,6 +168,20 @@ const ABORT: usize = 100;
 
 /// The structs and functions of include/bakebutton.h. Where C has a pointer and a length, they are two parameters.
 mod c {
+    // Edition 2024 wants the word unsafe here, which older compilers refuse; build.rs tells them apart.
+    macro_rules! calls {
+        ($($declared:tt)*) => {
+            #[cfg(unsafe_extern)]
+            unsafe extern "C" {
+                $($declared)*
+            }
+            #[cfg(not(unsafe_extern))]
+            extern "C" {
+                $($declared)*
+            }
+        };
+    }
+
     #[repr(C)]
     pub struct Answer {
         pub number: usize,
@@ -121,7 +242,7 @@ mod c {
         pub view: [usize; 3],
         pub room: usize,
     }
-    extern "C" {
+    calls! {
         pub fn bakebutton_open(file: *const u8, file_length: usize) -> CountsAnswer;
         pub fn bakebutton_gate(file: *const u8, file_length: usize, k: usize) -> GateAnswer;
         pub fn bakebutton_owner(file: *const u8, file_length: usize, k: usize) -> OwnerAnswer;
@@ -161,13 +282,13 @@ pub fn gate(file: &[u8], k: usize) -> Answer<Gate> {
 }
 
 /// The owner of input k as it is stored.
-pub fn owner(file: &[u8], k: usize) -> Answer<u8> {
+pub fn owner(file: &[u8], k: usize) -> Answer<Owner> {
     let a = unsafe { c::bakebutton_owner(file.as_ptr(), file.len(), k) };
     told(a.number, a.place, 0, a.owner)
 }
 
 /// The wire of output k as it is stored.
-pub fn output(file: &[u8], k: usize) -> Answer<u16> {
+pub fn output(file: &[u8], k: usize) -> Answer<Wire> {
     let a = unsafe { c::bakebutton_output(file.as_ptr(), file.len(), k) };
     told(a.number, a.place, 0, a.wire)
 }
@@ -233,8 +354,8 @@ pub fn retape(file: &[u8], inputs: &[u8], tapes: &[u8], second: &[u8], site: usi
     told(a.number, a.place, a.sites, ())
 }
 
-/// How many bits site s sends to site r: `[s - 1][r - 1]`.
-pub fn traffic(file: &[u8]) -> Answer<[[u32; 3]; 3]> {
+/// How many bits each site sends to each other.
+pub fn traffic(file: &[u8]) -> Answer<Traffic> {
     let a = unsafe { c::bakebutton_traffic(file.as_ptr(), file.len()) };
     told(a.number, a.place, 0, a.bits)
 }
