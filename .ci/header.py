@@ -1,10 +1,10 @@
 """Holds include/bakebutton.h, and the Rust crate over it, to the Rattle sources.
 
-- Every exported function of crates/panel is declared, with the parameters and the result that its own text has, and no other is.
-- Every struct that goes out (crates/told, #[repr(C)]) has the same members, of the same types, in the same order.
-- Good, abort, the refusals' numbers, the order of checks and what each call checks are those of crates/scope/specs and crates/demands/specs.
+- Every exported function of crates/door is declared, with the parameters and the result that its own text has, and no other is.
+- Every struct that goes out (crates/door_answers, #[repr(C)]) has the same members, of the same types, in the same order.
+- Good, abort, the refusals' numbers, the order of checks and what each call checks are those of crates/theory_calls/specs and crates/theory_demands/specs.
 - Limits, kinds, the job's and the text's lengths are those of the code that tests them.
-- Each length's macro gives what told::sizes_from and the header's own check compute, and each _MAX what the largest circuit needs.
+- Each length's macro gives what door_answers::sizes_from and the header's own check compute, and each _MAX what the largest circuit needs.
 - The header defines no function but bakebutton_words, which .ci/words.py tries.
 - The Rust crate declares functions of the header, structs of the same members, and the same numbers.
 - VERSION is the version of the header, of CHANGES.md's first part and of the Rust crates; KIT names one kit.
@@ -36,7 +36,7 @@ def flat(text):
 
 def prototypes():
     """Each exported function as C declares it."""
-    for found in re.finditer(r'pub extern "C" fn (\w+)\(([^)]*)\) -> (\w+)', source("crates/panel/src/lib.rt")):
+    for found in re.finditer(r'pub extern "C" fn (\w+)\(([^)]*)\) -> (\w+)', source("crates/door/src/lib.rt")):
         name, parameters, result = found.groups()
         words = []
         for parameter in filter(None, map(str.strip, parameters.split(","))):
@@ -53,7 +53,7 @@ def prototypes():
 
 def structs():
     """Each struct that goes out as C declares it."""
-    for name, body in re.findall(r"#\[repr\(C\)\]\npub struct (\w+) \{([^}]*)\}", source("crates/told/src/lib.rt")):
+    for name, body in re.findall(r"#\[repr\(C\)\]\npub struct (\w+) \{([^}]*)\}", source("crates/door_answers/src/lib.rt")):
         members = []
         for which, kind in re.findall(r"pub (\w+): ([^,]+),", body):
             array = re.fullmatch(r"\[(\w+); (\d+)\]", kind)
@@ -79,10 +79,10 @@ def numbers_in(text, named):
 def orders():
     """Each call's checks in their order, by the call's name in Calls.antt."""
     named = {}
-    for name, body in re.findall(r"^(\S+-checks?) [^=\n]*= (.*)$", source("crates/scope/specs/Checks.antt"), re.M):
+    for name, body in re.findall(r"^(\S+-checks?) [^=\n]*= (.*)$", source("crates/theory_calls/specs/Checks.antt"), re.M):
         named[name] = numbers_in(body, named)
-    text = source("crates/scope/specs/Calls.antt")
-    fixed = list_of(re.search(r"^fixed-order = (.*)$", source("crates/demands/specs/Public.antt"), re.M).group(1))
+    text = source("crates/theory_calls/specs/Calls.antt")
+    fixed = list_of(re.search(r"^fixed-order = (.*)$", source("crates/theory_demands/specs/Public.antt"), re.M).group(1))
     calls = re.findall(r"^unfoldable pub (\w+?)(?:Of)? : [^\n]*→ Call$.*?checks =(.*?)buffers =", text, re.M | re.S)
     return fixed, {name: numbers_in(checks, named) for name, checks in calls}
 
@@ -93,7 +93,7 @@ CALLS = {"open": "Open", "gate": "GateAt", "owner": "OwnerAt", "output": "Output
 
 def lengths():
     """What sizes_from computes, by member, as functions of i, g, o, a and the sites' own inputs."""
-    body = re.search(r"pub fn sizes_from\(.*?\n\{\n(.*?)\n\}\n", source("crates/told/src/lib.rt"), re.S).group(1)
+    body = re.search(r"pub fn sizes_from\(.*?\n\{\n(.*?)\n\}\n", source("crates/door_answers/src/lib.rt"), re.S).group(1)
     names = dict(re.findall(r"let (\w+) = ([^;]*);", body))
     literal = re.search(r"SizesAnswer \{(.*)\}", body, re.S).group(1)
     view = re.search(r"view: \[\s*([^,]*),", literal).group(1)
@@ -215,7 +215,7 @@ def problems():
     yield from rust_problems(wanted, given)
     yield from version_problems()
 
-    answers = source("crates/scope/specs/Answer.antt")
+    answers = source("crates/theory_calls/specs/Answer.antt")
     for case, name in (("good vs", "GOOD"), ("abort o m", "ABORT")):
         number = int(re.search(rf"^number-of \({case}\) = (\d+)$", answers, re.M).group(1))
         if defined(name) != number:
@@ -229,7 +229,7 @@ def problems():
     if list(table) != numbers:
         yield f"the comment's table of refusals has {list(table)}"
     for row, number in (("row-short", 1), ("row-large", 2), ("row-field", 3), ("row-site", 11), ("row-job", 14)):
-        body = re.search(rf"^{row} \w+ =(.*?)\n\n", source("crates/scope/specs/Checks.antt"), re.S | re.M).group(1)
+        body = re.search(rf"^{row} \w+ =(.*?)\n\n", source("crates/theory_calls/specs/Checks.antt"), re.S | re.M).group(1)
         places = re.findall(r"[(∷] ?\((\d+), not", body)
         said = (", ".join(places[:-1]) + " or " if places[1:] else "") + places[-1]
         if not re.search(rf"(?:^|\s){said}$", table[number]):
@@ -239,7 +239,7 @@ def problems():
             yield f"the comment on answers does not say {name.strip()}"
     if HEADER.count(f"number 1 to {count} ") != 1:
         yield f"the comment on answers does not say that refusals are 1 to {count}"
-    weights = [int(n) for n in re.findall(r"unlike\(g\.[^)]*, (\d)\)", source("crates/messages/src/lib.rt"))]
+    weights = [int(n) for n in re.findall(r"unlike\(g\.[^)]*, (\d)\)", source("crates/run_messages/src/lib.rt"))]
     shift = re.search(r"^#define BAKEBUTTON_SITE_WEIGHT\(site\) \(1u << \(\(site\) - 1\)\)$", HEADER, re.M)
     if weights != [1, 2, 4] or not shift or HEADER.count("a sum of 1, 2 and 4 for sites 1, 2 and 3") != 1:
         yield f"the sites' weights are {weights}"
@@ -261,19 +261,19 @@ def problems():
         if [(str(k), which) for k, which in enumerate(lent)] != listed:
             yield f"the comment on bakebutton_{name} does not say that lent are {lent}"
 
-    large = [int(n) for n in re.findall(r"if [igo] > (\d+)", source("crates/limits/src/lib.rt"))]
+    large = [int(n) for n in re.findall(r"if [igo] > (\d+)", source("crates/check_limits/src/lib.rt"))]
     if [defined("INPUTS_MAX"), defined("GATES_MAX"), defined("OUTPUTS_MAX")] != large:
         yield f"the limits are {large}"
     if flat(HEADER).count("({:,}; {:,}; {:,})".format(*large)) != 1:
         yield "the comment's table has other limits"
-    kinds = {kind: pattern.count("suc") for pattern, kind in re.findall(r"^gate-of (\(suc.*\)|zero) a b = (\w+)", source("crates/scope/specs/File.antt"), re.M)}
+    kinds = {kind: pattern.count("suc") for pattern, kind in re.findall(r"^gate-of (\(suc.*\)|zero) a b = (\w+)", source("crates/theory_calls/specs/File.antt"), re.M)}
     for kind, number in kinds.items():
         if defined(kind) != number:
             yield f"{kind} is kind {number}"
-    job = int(re.search(r"if n > (\d+)", source("crates/faults/src/lib.rt")).group(1))
+    job = int(re.search(r"if n > (\d+)", source("crates/check_tests/src/lib.rt")).group(1))
     if defined("JOB_BYTES_MAX") != job:
         yield f"a job has at most {job} bytes"
-    text_bytes = int(re.search(r"fn bakebutton_text_bytes.*?\{\n\s*(\d+)\n", source("crates/panel/src/lib.rt"), re.S).group(1))
+    text_bytes = int(re.search(r"fn bakebutton_text_bytes.*?\{\n\s*(\d+)\n", source("crates/door/src/lib.rt"), re.S).group(1))
     if defined("TEXT_BYTES") != text_bytes:
         yield f"a listing is lent {text_bytes} bytes"
 
@@ -294,7 +294,7 @@ def problems():
         most = size[member](large[0], large[1], large[2], large[1], large[0])
         if defined(name + "_BYTES_MAX") != most:
             yield f"BAKEBUTTON_{name}_BYTES_MAX is not {most}"
-    whole = re.search(r"if n != (.*) \{", source("crates/header/src/lib.rt")).group(1)
+    whole = re.search(r"if n != (.*) \{", source("crates/file_header/src/lib.rt")).group(1)
     for i, g, o, _, _ in tries:
         if macro("FILE_BYTES", inputs=i, gates=g, outputs=o) != eval(whole, {}, {"i": i, "g": g, "o": o}):
             yield f"BAKEBUTTON_FILE_BYTES is wrong for {(i, g, o)}"

@@ -4,7 +4,7 @@
 - No definition or proof declares an axiom.
 - A public call is a function whose comment begins "PUBLIC.". Each such mark has its function, none has a `requires`, each cites `does (`
   in its promise (a question to a reader `read-as (`), and docs/STATEMENTS.md has exactly these functions in its table.
-- The closed list of public calls (crates/demands/specs/Public.antt) is that of the sources: the call that a public function promises stands
+- The closed list of public calls (crates/theory_demands/specs/Public.antt) is that of the sources: the call that a public function promises stands
   in it, whole; every call in it is promised by one; no name stands for two calls; a call that reads a circuit file is in OnFile; and
   docs/STATEMENTS.md has exactly these calls in its table.
 - No function over a Reader that a caller outside can reach has a `requires`: anybody can make a Reader.
@@ -79,7 +79,7 @@ def defined_calls():
 
 def closed_list():
     """The calls of each type that Public takes in. A member is a call on variables that are its own, each once."""
-    types = dict(DATA.findall(re.sub(r"[ ]*--.*", "", (ROOT / "crates" / "demands" / "specs" / "Public.antt").read_text())))
+    types = dict(DATA.findall(re.sub(r"[ ]*--.*", "", (ROOT / "crates" / "theory_demands" / "specs" / "Public.antt").read_text())))
     inside = {"Public"} | set(re.findall(r"→ (\w+) c → Public c$", types["Public"], re.M))
     for name in sorted(inside):
         for binders, call, words in MEMBER.findall(types[name]):
@@ -89,7 +89,7 @@ def closed_list():
 
 def call_problems():
     """Of the closed list of public calls, against what public functions promise and against the map's table of calls."""
-    where = "crates/demands/specs/Public.antt"
+    where = "crates/theory_demands/specs/Public.antt"
     bodies = {}
     for name, body in defined_calls():
         if name in bodies:
@@ -149,7 +149,7 @@ def public_problems():
         if not re.search(r"^\s*ensures\b.*\b(?:does \(|read-as \(|Tells )", contract, re.M | re.S):
             yield f"{path}: public call {name} does not promise what its call does"
     rows = re.findall(r"^\|.*$", public_section(), re.M)
-    named = set(PLACE.findall("\n".join(rows))) - {("bakebutton_text_bytes", "crates/panel/src/lib.rt")}
+    named = set(PLACE.findall("\n".join(rows))) - {("bakebutton_text_bytes", "crates/door/src/lib.rt")}
     for name, path in sorted(seen ^ named):
         yield f"{path}: {name} is " + ("not in docs/STATEMENTS.md's tables of public calls" if (name, path) in seen else "in docs/STATEMENTS.md's tables of public calls, and none")
     if not seen:

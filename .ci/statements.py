@@ -1,7 +1,7 @@
 """Holds docs/STATEMENTS.md to the sources.
 
 A citation there is a link whose text is a name in code quotes and whose target is
-a file of this repository: [`does`](../crates/scope/specs/Call.antt).  The file
+a file of this repository: [`does`](../crates/theory_calls/specs/Call.antt).  The file
 must be there and must declare that name; a comment declares nothing.  Every theorem of the demands must be
 cited, so that none is added, renamed or dropped without the map.
 """
@@ -12,7 +12,7 @@ import sys
 
 ROOT = pathlib.Path(__file__).resolve().parent.parent
 MAP = ROOT / "docs" / "STATEMENTS.md"
-THEOREMS = ["crates/demands/proofs/Demands.antt", "crates/demands/proofs/Marked.antt"]
+THEOREMS = ["crates/theory_demands/proofs/Demands.antt", "crates/theory_demands/proofs/Marked.antt"]
 LINK = re.compile(r"\[`([^`]+)`\]\(([^)#]+)\)")
 COMMENT = {".antt": "--", ".rt": "//"}
 MARKS = r"[ ]*(?:(?:pub|abbrev|unfoldable)[ ]+)*"

@@ -14,12 +14,12 @@ import tempfile
 
 ROOT = pathlib.Path(__file__).resolve().parent.parent
 WITHOUT_KIT = os.pathsep.join(place for place in os.environ["PATH"].split(os.pathsep) if not os.path.exists(os.path.join(place, "rt")))
-K1 = ROOT / "crates" / "bakebutton" / "stdin"
+K1 = ROOT / "crates" / "listing_program" / "stdin"
 FAKE = """#!/bin/sh
 [ "$1" != version ] || exec cat "$FAKE_KIT"
 echo called >>"$FAKE_CALLS"
-echo 'rt: sharing proved (3 s)'
-echo 'rt: scope NOT PROVED (exit 1, 2 s)'
+echo 'rt: theory_sharing proved (3 s)'
+echo 'rt: theory_calls NOT PROVED (exit 1, 2 s)'
 exit "$FAKE_STATUS"
 """
 
@@ -89,7 +89,7 @@ def cases(folder, job, pipe, directory):
     yield "tools/benchmark", [[""], ["word"], ["--no"], ["instructions", "second"]]
     yield "tools/words", [[""], ["word"], ["5"], ["5", "x"], ["x", "5"], ["7?", "1"], ["5", "1", "2"], ["write", "second"]]
     yield "tools/bakebutton", [[], [""], ["word"], ["--no"], ["check"], ["check", "missing"], ["check", "a folder"], ["check", "a file", "second"]]
-    yield "tools/attack", [[], [""], ["nothing"], ["checks", "neither"]]
+    yield "tools/attack", [[], [""], ["nothing"], ["check_circuit", "neither"]]
     yield "tools/cc", [[], [""]]
     yield "tools/run86", [[], [""], ["--no"], ["missing"], ["a folder"], ["a file"]]
     yield ".ci/run", [[""], ["word"], ["--no"], ["kit", "layout"]]
@@ -114,14 +114,14 @@ def main():
             fail(f"not tried: {sorted(every ^ commands)}")
 
         job = str(K1)
-        tried.fails("tools/listing", [job], "scope is not proved")
+        tried.fails("tools/listing", [job], "theory_calls is not proved")
         tried.fails("tools/listing", [job], "listing: 1 of ")
         tried.fails("tools/listing", [job], "could not tell", status="3")
         tried.fails("tools/listing", [job], "rt itself failed", status="2")
         tried.fails("tools/words", ["15", "0"], "no call answers")
         if all(shutil.which(need, path=WITHOUT_KIT) for need in ("sh", "bash", "env", "sed", "python3")):
             tried.fails("tools/listing", [job], "is not here", kit=False)
-            tried.fails("tools/attack", ["checks"], "is not here", kit=False)
+            tried.fails("tools/attack", ["check_circuit"], "is not here", kit=False)
             tried.fails(".ci/run", ["kit"], "is not here", kit=False)
     print(f"tools ok, {len(every)} commands, {tried.count} calls")
 

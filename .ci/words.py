@@ -69,12 +69,12 @@ def source(path):
 
 def wanted():
     """Each answer's number and places by the definitions; None is any place."""
-    checks = source("crates/scope/specs/Checks.antt")
+    checks = source("crates/theory_calls/specs/Checks.antt")
     every = {}
     for number, name in re.findall(r"\brefusal ([1-9]\d*) \(([\w-]+)", checks):
         body = re.search(rf"^{name}(?: \w+)+ =(.*?)\n\n", checks, re.S | re.M).group(1)
         every[int(number)] = sorted(map(int, re.findall(r"[(∷] ?\((\d+), not", body))) or [None]
-    answers = source("crates/scope/specs/Answer.antt")
+    answers = source("crates/theory_calls/specs/Answer.antt")
     every[int(re.search(r"^number-of \(abort o m\) = (\d+)$", answers, re.M).group(1))] = [None]
     every[int(re.search(r"^number-of \(good vs\) = (\d+)$", answers, re.M).group(1))] = [0]
     return every
@@ -91,10 +91,10 @@ def check_rows(table):
             fail(f"of number {number} the table has the places {have.get(number)}, the definitions {every.get(number)}")
     if sorted(row[:3] for row in rows if row[1]) != [(4, True, None), (5, True, None), (6, True, None)]:
         fail("the questions by number are refused with 4, 5 and 6, and the table has other rows for them")
-    large = [f"{int(n):,}" for n in re.findall(r"if [igo] > (\d+)", source("crates/limits/src/lib.rt"))]
+    large = [f"{int(n):,}" for n in re.findall(r"if [igo] > (\d+)", source("crates/check_limits/src/lib.rt"))]
     if [re.search(r"more than ([\d,]+)", table.words(2, place))[1] for place in range(3)] != large:
         fail(f"the limits are {large}")
-    job = int(re.search(r"if n > (\d+)", source("crates/faults/src/lib.rt")).group(1))
+    job = int(re.search(r"if n > (\d+)", source("crates/check_tests/src/lib.rt")).group(1))
     if f"over {job:,} bytes" not in table.words(14, 0):
         fail(f"a job has at most {job} bytes")
 

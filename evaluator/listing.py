@@ -20,7 +20,7 @@ import calls  # noqa: E402
 import check  # noqa: E402
 
 ROOT = os.path.join(check.HERE, os.pardir)
-CRATE = os.path.join(ROOT, "crates", "bakebutton")
+CRATE = os.path.join(ROOT, "crates", "listing_program")
 PIPED = ["far longer", "a byte above 1"]
 K1 = b"inputs 2 gates 1 outputs 1\nbits 23\nout 0 1\nend\n"
 
@@ -86,7 +86,7 @@ def told(*words, given=b""):
 def main():
     every = jobs()
     if stored("stdin") != every["K1"] or stored("stdout") != K1:
-        fail("crates/bakebutton: stdin is not job K1, or stdout not 01's text")
+        fail("crates/listing_program: stdin is not job K1, or stdout not 01's text")
     listing = [os.path.join(ROOT, "tools", "listing"), "-"]
     if subprocess.run(listing, input=every["K1"],
                       stdout=subprocess.DEVNULL).returncode:

@@ -98,7 +98,7 @@ class Answers(Case):
         path = self.path("k1.job")
         self.assertEqual(command("job", K1, path, "--inputs", "11", "--tapes", TAPES)[0], 0)
         self.assertEqual(stat.S_IMODE(os.stat(path).st_mode), 0o600)
-        with open(ROOT / "crates" / "bakebutton" / "stdin", "rb") as one, open(path, "rb") as two:
+        with open(ROOT / "crates" / "listing_program" / "stdin", "rb") as one, open(path, "rb") as two:
             self.assertEqual(one.read(), two.read())
         self.assertEqual(command("listing", path)[:2], (0, b"inputs 2 gates 1 outputs 1\nbits 23\nout 0 1\nend\n"))
         self.assertEqual(command("apart", path, "--circuit", "-")[:2], (0, K1_CIRCUIT.file()))

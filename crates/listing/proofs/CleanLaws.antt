@@ -8,21 +8,21 @@ use mathlib.Core.List.{List, [], _∷_}
 use Prim.Native.Nat.{ℕ, zero, suc, _+_, _*_, _-_, _≤_}
 use native.Mathlib.Omega.{arith}
 use lib.ListN.{length, getD, take, replicate}
-use Rattle.sharing.specs.Ops.{bits}
-use Rattle.sharing.specs.Circuit.{Circuit, Draws, Errors, no-errors}
-use Rattle.sharing.specs.Run.{outputs}
-use Rattle.sharing.specs.Line.{errors}
-use Rattle.sharing.proofs.Clean.{no-objection}
-use Rattle.sharing.proofs.RunLaws.{stop-none}
-use Rattle.sharing.proofs.BitLaws.{bit-group}
-use Rattle.scope.specs.File.{circuit}
-use Rattle.scope.specs.Answer.{After}
-use Rattle.scope.specs.Checks.{line-want}
-use Rattle.scope.specs.Statements.{Clean}
-use Rattle.scope.specs.AtBits.{ran}
-use Rattle.scope.proofs.RunCall.{clean-errors, bit-draws, ran-quiet}
-use Rattle.header.specs.declared.Counts.{Counts}
-use Rattle.given.proofs.GivenLaws.{line-is}
+use Rattle.theory_sharing.specs.Ops.{bits}
+use Rattle.theory_sharing.specs.Circuit.{Circuit, Draws, Errors, no-errors}
+use Rattle.theory_sharing.specs.Run.{outputs}
+use Rattle.theory_sharing.specs.Line.{errors}
+use Rattle.theory_sharing.proofs.Clean.{no-objection}
+use Rattle.theory_sharing.proofs.RunLaws.{stop-none}
+use Rattle.theory_sharing.proofs.BitLaws.{bit-group}
+use Rattle.theory_calls.specs.File.{circuit}
+use Rattle.theory_calls.specs.Answer.{After}
+use Rattle.theory_calls.specs.Checks.{line-want}
+use Rattle.theory_calls.specs.Statements.{Clean}
+use Rattle.theory_calls.specs.AtBits.{ran}
+use Rattle.theory_calls.proofs.RunCall.{clean-errors, bit-draws, ran-quiet}
+use Rattle.file_header.specs.declared.Counts.{Counts}
+use Rattle.check_given.proofs.GivenLaws.{line-is}
 use Rattle.run.specs.declared.Ran.{Ran}
 use Rattle.run.specs.Answers.{run-after}
 use Rattle.run.specs.Mirror.{Ready}
@@ -50,7 +50,7 @@ clean-opens C x T l outs tr r o′ t′ s′ h e =
     let q : errors C l ≡ no-errors = clean-errors C l h in
     ap (λ (z : After). getD (z .lent) 0 [])
     (e ∙ ap (λ (E : Errors). ran C x T E outs tr) q
-    ∙ ran-quiet C x T no-errors outs tr (stop-none bits C x T no-errors (λ p k. no-objection bit-group C x T (bit-draws T) p)))
+    ∙ ran-quiet bits C x T no-errors outs tr (stop-none bits C x T no-errors (λ p k. no-objection bit-group C x T (bit-draws T) p)))
 
 -- ---- what a run wants
 module _ (f : List ℕ) (c : Counts) (a : ℕ) (x t : List ℕ) (d : Fit f c a x t) where

@@ -12,17 +12,17 @@ use lib.ListN.{length, take, drop, length-drop}
 use lib.Seq.{take-all}
 use lib.Dec.{eqb, leb}
 use borrow.Author.Tests.{leb-true}
-use Rattle.sharing.proofs.FirstLaws.{Clear}
-use Rattle.scope.specs.File.{le32}
-use Rattle.scope.specs.Checks.{Refusal, refusal, tested, row-job, Verdict, accepted, refuses, verdict}
-use Rattle.scope.specs.AtBits.{circuit-checks}
-use Rattle.scope.specs.Calls.{Listing, job-file, job-inputs, job-tapes, settle, does}
-use Rattle.scope.proofs.Refusals.{accepted-passes, Passes, row-refuses, row-passes}
-use Rattle.scope.proofs.CallLaws.{does-refused}
-use Rattle.slices.specs.Mirror.{job-fault-of}
-use Rattle.circuit.proofs.CheckedLaws.{both}
-use Rattle.given.specs.Mirror.{slices-checks}
-use Rattle.slices.proofs.ChainLaws.{nothing}
+use Rattle.theory_sharing.proofs.FirstLaws.{Clear}
+use Rattle.theory_calls.specs.File.{le32}
+use Rattle.theory_calls.specs.Checks.{Refusal, refusal, tested, row-job, Verdict, accepted, refuses, verdict}
+use Rattle.theory_calls.specs.AtBits.{circuit-checks}
+use Rattle.theory_calls.specs.Calls.{Listing, job-file, job-inputs, job-tapes, settle, does}
+use Rattle.theory_calls.proofs.Refusals.{accepted-passes, Passes, row-refuses, row-passes}
+use Rattle.theory_calls.proofs.CallLaws.{does-refused}
+use Rattle.check_slices.specs.Mirror.{job-fault-of}
+use Rattle.file_parts.proofs.CheckedLaws.{both}
+use Rattle.check_given.specs.Mirror.{slices-checks}
+use Rattle.check_slices.proofs.ChainLaws.{nothing}
 use Rattle.listing.specs.Mirror.{says-refused, judged, says}
 
 not-false : (b : Bool) → (not b || false) ≡ false → b ≡ true

@@ -5,9 +5,9 @@ use mathlib.Core.List.{List, [], _++_}
 use Prim.Native.Nat.{ℕ, _+_, _-_}
 use lib.ListN.{length, getD, take, drop, take-append-drop}
 use lib.Seq.{length-take-le}
-use Rattle.scope.specs.Answer.{After}
-use Rattle.scope.specs.Calls.{Listing, does}
-use Rattle.header.proofs.OpenLaws.{good-is-not-refused}
+use Rattle.theory_calls.specs.Answer.{After}
+use Rattle.theory_calls.specs.Calls.{Listing, does}
+use Rattle.file_header.proofs.OpenLaws.{good-is-not-refused}
 use Rattle.listing.specs.declared.Listed.{Listed}
 use Rattle.listing.specs.declared.Listed.the-variants.{Good, Refused}
 use Rattle.listing.specs.Answers.{listed-answer, text-length, listed-after, Rest}

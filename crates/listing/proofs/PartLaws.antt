@@ -5,23 +5,23 @@
 use mathlib.Core.Path.{_≡_, sym, ap, _∙_, subst}
 use mathlib.Core.List.{List, _++_}
 use Prim.Native.Nat.{ℕ, _≤_}
-use Rattle.sharing.specs.Circuit.{ands}
-use Rattle.scope.specs.File.{inputs-of, circuit}
-use Rattle.scope.specs.Checks.{Refusal, tapes-want, accepted, verdict}
-use Rattle.scope.specs.AtBits.{circuit-checks}
-use Rattle.scope.specs.Statements.{Bits}
-use Rattle.scope.specs.Calls.{Check, answers, does}
-use Rattle.scope.proofs.Refusals.{accepted-passes, Passes}
-use Rattle.scope.proofs.RowLaws.{bits-clear}
-use Rattle.header.specs.declared.Counts.{Counts}
-use Rattle.header.specs.declared.Header.{Header}
-use Rattle.header.specs.declared.Header.the-variants.{Refused as HeaderRefused}
-use Rattle.header.specs.Answers.{header-answer}
-use Rattle.circuit.specs.Checked.{Checked}
-use Rattle.given.specs.declared.Fault.{Fault}
-use Rattle.checks.proofs.FrontLaws.{circuit-refuses, circuit-passes}
-use Rattle.given.specs.Mirror.{slices-checks, found}
-use Rattle.given.proofs.GivenLaws.{found-no, found-yes}
+use Rattle.theory_sharing.specs.Circuit.{ands}
+use Rattle.theory_calls.specs.File.{inputs-of, circuit}
+use Rattle.theory_calls.specs.Checks.{Refusal, tapes-want, accepted, verdict}
+use Rattle.theory_calls.specs.AtBits.{circuit-checks}
+use Rattle.theory_calls.specs.Statements.{Bits}
+use Rattle.theory_calls.specs.Calls.{Check, answers, does}
+use Rattle.theory_calls.proofs.Refusals.{accepted-passes, Passes}
+use Rattle.theory_calls.proofs.RowLaws.{bits-clear}
+use Rattle.file_header.specs.declared.Counts.{Counts}
+use Rattle.file_header.specs.declared.Header.{Header}
+use Rattle.file_header.specs.declared.Header.the-variants.{Refused as HeaderRefused}
+use Rattle.file_header.specs.Answers.{header-answer}
+use Rattle.file_parts.specs.Checked.{Checked}
+use Rattle.check_given.specs.declared.Fault.{Fault}
+use Rattle.check_circuit.proofs.FrontLaws.{circuit-refuses, circuit-passes}
+use Rattle.check_given.specs.Mirror.{slices-checks, found}
+use Rattle.check_given.proofs.GivenLaws.{found-no, found-yes}
 use Rattle.listing.specs.Mirror.{Fit, says-good, says-refused, says-header, judged, says}
 
 module _ (f x t : List ℕ) where

@@ -9,27 +9,27 @@ use Prim.Native.Nat.{ℕ, zero, suc, _+_, _*_, _-_, _<_, _≤_}
 use native.Mathlib.Omega.{arith}
 use lib.ListN.{length, getD, take, drop, length-append}
 use lib.Seq.{take-append-seam}
-use Rattle.sharing.specs.Ops.{bits}
-use Rattle.sharing.specs.Sites.{s1, Trio}
-use Rattle.sharing.specs.Circuit.{Circuit, Draws, no-errors}
-use Rattle.sharing.specs.Run.{opened-at, outputs}
-use Rattle.sharing.specs.Tapes.{read}
-use Rattle.sharing.specs.Store.{fill}
-use Rattle.sharing.specs.Traffic.{table-total}
-use Rattle.sharing.proofs.StoreLaws.{fill-rest}
-use Rattle.sharing.proofs.TrafficLaws.{table-total-is}
-use Rattle.scope.specs.File.{circuit}
-use Rattle.scope.specs.Plain.{byte, plain, plain-values, plain-out}
-use Rattle.scope.specs.Answer.{good, refused}
-use Rattle.scope.specs.Listing.{decimal, word-out, word-end, space, LF, out-lines, good-text, refused-text}
-use Rattle.scope.specs.Calls.{at-wire}
-use Rattle.scope.proofs.RunCall.{opens-plain}
-use Rattle.header.specs.declared.Counts.{Counts}
-use Rattle.given.proofs.GivenLaws.{ands-are}
-use Rattle.sharing.proofs.RunLaws.{outputs-at}
+use Rattle.theory_sharing.specs.Ops.{bits}
+use Rattle.theory_sharing.specs.Sites.{s1, Trio}
+use Rattle.theory_sharing.specs.Circuit.{Circuit, Draws, no-errors}
+use Rattle.theory_sharing.specs.Run.{opened-at, outputs}
+use Rattle.theory_sharing.specs.Tapes.{read}
+use Rattle.theory_sharing.specs.Store.{fill}
+use Rattle.theory_sharing.specs.Traffic.{table-total}
+use Rattle.theory_sharing.proofs.StoreLaws.{fill-rest}
+use Rattle.theory_sharing.proofs.TrafficLaws.{table-total-is}
+use Rattle.theory_calls.specs.File.{circuit}
+use Rattle.theory_calls.specs.Plain.{byte, plain, plain-values, plain-out}
+use Rattle.theory_calls.specs.Answer.{good, refused}
+use Rattle.theory_calls.specs.Listing.{decimal, word-out, word-end, space, LF, out-lines, good-text, refused-text}
+use Rattle.theory_calls.specs.Calls.{at-wire}
+use Rattle.theory_calls.proofs.RunCall.{opens-plain}
+use Rattle.file_header.specs.declared.Counts.{Counts}
+use Rattle.check_given.proofs.GivenLaws.{ands-are}
+use Rattle.theory_sharing.proofs.RunLaws.{outputs-at}
 use native.Mathlib.Nat.{add-zero}
-use Rattle.text.specs.Mirror.{head-of, lines-of, shown-of, OneDigit}
-use Rattle.text.proofs.TextLaws.{good-lines}
+use Rattle.listing_text.specs.Mirror.{head-of, lines-of, shown-of, OneDigit}
+use Rattle.listing_text.proofs.TextLaws.{good-lines}
 use Rattle.listing.specs.declared.Listed.the-variants.{Good, Refused}
 use Rattle.listing.specs.Answers.{listed-answer, text-length, listed-after, Rest}
 use Rattle.listing.specs.Mirror.{Fit, says-good, says-refused}

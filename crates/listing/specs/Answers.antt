@@ -7,7 +7,7 @@ use mathlib.Core.Path.{_≡_}
 use mathlib.Core.List.{List, [], _∷_}
 use Prim.Native.Nat.{ℕ, _≤_}
 use lib.ListN.{length, take, drop}
-use Rattle.scope.specs.Answer.{Answer, good, refused, After}
+use Rattle.theory_calls.specs.Answer.{Answer, good, refused, After}
 use Rattle.listing.specs.declared.Listed.{Listed}
 use Rattle.listing.specs.declared.Listed.the-variants.{Good, Refused}
 

@@ -6,22 +6,22 @@ use mathlib.Core.Path.{_≡_}
 use mathlib.Core.List.{List, [], _∷_, _++_}
 use Prim.Native.Nat.{ℕ, _≤_}
 use lib.ListN.{length}
-use Rattle.sharing.specs.Ops.{bits}
-use Rattle.sharing.specs.Circuit.{no-errors, ands}
-use Rattle.sharing.specs.Run.{opened-at}
-use Rattle.sharing.specs.Tapes.{read}
-use Rattle.scope.specs.File.{circuit}
-use Rattle.scope.specs.Answer.{good, refused, After}
-use Rattle.scope.specs.Checks.{tapes-want, Verdict, accepted, refuses, verdict}
-use Rattle.scope.specs.AtBits.{circuit-checks}
-use Rattle.scope.specs.Calls.{at-wire}
-use Rattle.scope.specs.Listing.{good-text, refused-text}
-use Rattle.scope.specs.Statements.{Bits}
-use Rattle.header.specs.declared.Counts.{Counts}
-use Rattle.header.specs.declared.Header.{Header}
-use Rattle.header.specs.declared.Header.the-variants.{Good as HeaderGood, Refused as HeaderRefused}
-use Rattle.circuit.specs.Checked.{Checked}
-use Rattle.given.specs.Mirror.{slices-checks}
+use Rattle.theory_sharing.specs.Ops.{bits}
+use Rattle.theory_sharing.specs.Circuit.{no-errors, ands}
+use Rattle.theory_sharing.specs.Run.{opened-at}
+use Rattle.theory_sharing.specs.Tapes.{read}
+use Rattle.theory_calls.specs.File.{circuit}
+use Rattle.theory_calls.specs.Answer.{good, refused, After}
+use Rattle.theory_calls.specs.Checks.{tapes-want, Verdict, accepted, refuses, verdict}
+use Rattle.theory_calls.specs.AtBits.{circuit-checks}
+use Rattle.theory_calls.specs.Calls.{at-wire}
+use Rattle.theory_calls.specs.Listing.{good-text, refused-text}
+use Rattle.theory_calls.specs.Statements.{Bits}
+use Rattle.file_header.specs.declared.Counts.{Counts}
+use Rattle.file_header.specs.declared.Header.{Header}
+use Rattle.file_header.specs.declared.Header.the-variants.{Good as HeaderGood, Refused as HeaderRefused}
+use Rattle.file_parts.specs.Checked.{Checked}
+use Rattle.check_given.specs.Mirror.{slices-checks}
 
 pub record Fit (f : List ℕ) (c : Counts) (a : ℕ) (x t : List ℕ) : Type 0 where
   pub checked : Checked f c

@@ -3,18 +3,15 @@
 ghost use mathlib.Core.Path.{_≡_};
 ghost use Prim.Native.Nat.{_+_, _*_, _-_, _≤_};
 ghost use lib.ListN.{length, take, drop};
-ghost use Rattle.sharing.specs.Ops.{bits};
-ghost use Rattle.sharing.specs.Circuit.{no-errors};
-ghost use Rattle.sharing.specs.Run.{outputs};
-ghost use Rattle.sharing.specs.Tapes.{read};
-ghost use Rattle.scope.specs.File.{circuit};
-ghost use Rattle.scope.specs.Statements.{Clean};
-ghost use Rattle.scope.specs.Calls.{at-wire, Listing, does};
-ghost use Rattle.circuit.specs.Checked.{Checked};
+ghost use Rattle.theory_sharing.specs.Run.{outputs};
+ghost use Rattle.theory_calls.specs.Statements.{Clean};
+ghost use Rattle.theory_calls.specs.Calls.{Listing, does};
+ghost use Rattle.theory_calls.specs.AtBits.{clean-outputs};
+ghost use Rattle.file_parts.specs.Checked.{Checked};
 ghost use Rattle.listing.specs.Answers.{listed-after, Rest};
 ghost use Rattle.listing.specs.Mirror.{Fit, says-good, says-refused, says-header, says};
-use header::Counts;
-use header::Header;
+use file_header::Counts;
+use file_header::Header;
 
 // How many bytes of the room are text; with a refusal's number and place in front.
 pub enum Listed {
@@ -44,10 +41,10 @@ fn outputs_room() -> [u8; 768]
 }
 
 // The run on a clean line: what the three sites open, output by output.
-fn clean_run(file: &[u8], c: Counts, a: usize, xs: &[u8], tapes: &[u8], outs: &mut [u8])
-    requires { ⌜ Fit (now file) c a (now xs) (now tapes) ⌝ }
+fn clean_run(file: &[u8], c: Counts, a: usize, inputs: &[u8], tapes: &[u8], outs: &mut [u8])
+    requires { ⌜ Fit (now file) c a (now inputs) (now tapes) ⌝ }
     requires { ⌜ length (now outs) ≡ 3 * c .outputs ⌝ }
-    ensures { λ _. ⌜ now (outs .exit) ≡ outputs bits (circuit (now (file .entry))) (at-wire (now (xs .entry))) (read (circuit (now (file .entry))) (now (tapes .entry))) no-errors (circuit (now (file .entry)) .outs) ⌝ }
+    ensures { λ _. ⌜ now (outs .exit) ≡ clean-outputs (now (file .entry)) (now (inputs .entry)) (now (tapes .entry)) ⌝ }
 {
     let line = zeros();
     let mut room = zeros();
@@ -58,7 +55,7 @@ fn clean_run(file: &[u8], c: Counts, a: usize, xs: &[u8], tapes: &[u8], outs: &m
         file,
         c,
         a,
-        xs,
+        inputs,
         tapes,
         &line[..n],
         outs,
@@ -72,32 +69,39 @@ fn tell(
     file: &[u8],
     c: Counts,
     a: usize,
-    xs: &[u8],
+    inputs: &[u8],
     tapes: &[u8],
     outs: &mut [u8],
     room: &mut [u8],
 ) -> Listed
-    requires { ⌜ Fit (now file) c a (now xs) (now tapes) ⌝ }
+    requires { ⌜ Fit (now file) c a (now inputs) (now tapes) ⌝ }
     requires { ⌜ (length (now outs) ≡ 3 * c .outputs) × (2624 ≤ length (now room)) ⌝ }
-    ensures { λ r. ⌜ listed-after r (now (room .exit)) ≡ says-good (now (file .entry)) (now (xs .entry)) (now (tapes .entry)) ⌝ }
+    ensures { λ r. ⌜ listed-after r (now (room .exit)) ≡ says-good (now (file .entry)) (now (inputs .entry)) (now (tapes .entry)) ⌝ }
     ensures { λ r. ⌜ Rest r (now (room .entry)) (now (room .exit)) ⌝ }
 {
     let total = 4 * c.inputs + 12 * a + 3 * c.outputs;
-    clean_run(file, c, a, xs, tapes, outs);
-    let n = text::good_text(room, c, total, outs);
+    clean_run(file, c, a, inputs, tapes, outs);
+    let n = listing_text::good_text(room, c, total, outs);
     Listed::Good(n)
 }
 
 // Behind all checks: the run, and its text. What is behind 1 to 6 asks it.
-pub fn good(file: &[u8], c: Counts, a: usize, xs: &[u8], tapes: &[u8], room: &mut [u8]) -> Listed
-    requires { ⌜ Fit (now file) c a (now xs) (now tapes) ⌝ }
+pub fn good(
+    file: &[u8],
+    c: Counts,
+    a: usize,
+    inputs: &[u8],
+    tapes: &[u8],
+    room: &mut [u8],
+) -> Listed
+    requires { ⌜ Fit (now file) c a (now inputs) (now tapes) ⌝ }
     requires { ⌜ 2624 ≤ length (now room) ⌝ }
-    ensures { λ r. ⌜ listed-after r (now (room .exit)) ≡ says-good (now (file .entry)) (now (xs .entry)) (now (tapes .entry)) ⌝ }
+    ensures { λ r. ⌜ listed-after r (now (room .exit)) ≡ says-good (now (file .entry)) (now (inputs .entry)) (now (tapes .entry)) ⌝ }
     ensures { λ r. ⌜ Rest r (now (room .entry)) (now (room .exit)) ⌝ }
 {
     let mut opened = outputs_room();
     let k = 3 * c.outputs;
-    tell(file, c, a, xs, tapes, &mut opened[..k], room)
+    tell(file, c, a, inputs, tapes, &mut opened[..k], room)
 }
 
 // "A refusal prints only `refused N P`, number and place."
@@ -106,7 +110,7 @@ fn refuse(room: &mut [u8], number: usize, place: usize) -> Listed
     ensures { λ r. ⌜ listed-after r (now (room .exit)) ≡ says-refused number place ⌝ }
     ensures { λ r. ⌜ Rest r (now (room .entry)) (now (room .exit)) ⌝ }
 {
-    let n = text::refused_text(room, number, place);
+    let n = listing_text::refused_text(room, number, place);
     Listed::Refused(number, place, n)
 }
 
@@ -123,31 +127,31 @@ fn refuse_header(room: &mut [u8], h: Header) -> Listed
 }
 
 // Behind checks 1 to 6, on the counts that they gave: A is counted, 7 and 8 are made, then the text. What lists a job's parts asks it.
-pub fn list_opened(file: &[u8], c: Counts, xs: &[u8], tapes: &[u8], room: &mut [u8]) -> Listed
+pub fn list_opened(file: &[u8], c: Counts, inputs: &[u8], tapes: &[u8], room: &mut [u8]) -> Listed
     requires { ⌜ Checked (now file) c ⌝ }
     requires { ⌜ 2624 ≤ length (now room) ⌝ }
-    ensures { λ r. ⌜ listed-after r (now (room .exit)) ≡ says (now (file .entry)) (now (xs .entry)) (now (tapes .entry)) ⌝ }
+    ensures { λ r. ⌜ listed-after r (now (room .exit)) ≡ says (now (file .entry)) (now (inputs .entry)) (now (tapes .entry)) ⌝ }
     ensures { λ r. ⌜ Rest r (now (room .entry)) (now (room .exit)) ⌝ }
 {
-    let a = tally::count_ands(file, c);
-    let f = given::slices_fault(file, c, a, xs, tapes);
+    let a = file_counts::count_ands(file, c);
+    let f = check_given::slices_fault(file, c, a, inputs, tapes);
     if f.number != 0 {
         return refuse(room, f.number, f.place);
     }
-    good(file, c, a, xs, tapes, room)
+    good(file, c, a, inputs, tapes, room)
 }
 
 // A job's three parts: 1 to 6, then what is behind them.
-fn list(file: &[u8], xs: &[u8], tapes: &[u8], room: &mut [u8]) -> Listed
+fn list(file: &[u8], inputs: &[u8], tapes: &[u8], room: &mut [u8]) -> Listed
     requires { ⌜ 2624 ≤ length (now room) ⌝ }
-    ensures { λ r. ⌜ listed-after r (now (room .exit)) ≡ says (now (file .entry)) (now (xs .entry)) (now (tapes .entry)) ⌝ }
+    ensures { λ r. ⌜ listed-after r (now (room .exit)) ≡ says (now (file .entry)) (now (inputs .entry)) (now (tapes .entry)) ⌝ }
     ensures { λ r. ⌜ Rest r (now (room .entry)) (now (room .exit)) ⌝ }
 {
-    let h = checks::check_file(file);
+    let h = check_circuit::check_file(file);
     let Header::Good(c) = h else {
         return refuse_header(room, h);
     };
-    list_opened(file, c, xs, tapes, room)
+    list_opened(file, c, inputs, tapes, room)
 }
 
 // A job by its offsets: "the parts run each to the next and the last to the end".
@@ -165,11 +169,11 @@ pub fn listing(job: &[u8], room: &mut [u8; 2624]) -> Listed
     ensures { λ r. ⌜ listed-after r (now (room .exit)) ≡ does (Listing (now (job .entry))) ⌝ }
     ensures { λ r. ⌜ Rest r (now (room .entry)) (now (room .exit)) ⌝ }
 {
-    let p = slices::job_fault(job);
+    let p = check_slices::job_fault(job);
     if p < 13 {
         return refuse(room, 14, p);
     }
-    let i = numbers::u32_at(job, 8) as usize;
-    let t = numbers::u32_at(job, 12) as usize;
+    let i = file_numbers::u32_at(job, 8) as usize;
+    let t = file_numbers::u32_at(job, 12) as usize;
     list_parts(job, i, t, room)
 }

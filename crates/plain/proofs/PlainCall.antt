@@ -8,23 +8,23 @@ use Prim.Native.Nat.{ℕ, _+_, _<_, _≤_}
 use native.Mathlib.Omega.{arith}
 use lib.ListN.{length}
 use borrow.Author.Tests.{eq-eqb, ne-eqb}
-use Rattle.sharing.specs.Circuit.{wires}
-use Rattle.sharing.specs.First.{first}
-use Rattle.scope.specs.File.{inputs-of, circuit}
-use Rattle.scope.specs.Plain.{plain}
-use Rattle.scope.specs.Checks.{Refusal, refusal, row-buffer, fault, accepted, verdict}
-use Rattle.scope.specs.AtBits.{bits-row}
-use Rattle.scope.specs.Calls.{Plain, PlainOf, does}
-use Rattle.scope.proofs.Refusals.{Without}
-use Rattle.scope.proofs.CallLaws.{does-good}
-use Rattle.header.specs.declared.Counts.{Counts}
-use Rattle.header.specs.Opened.{Opened}
-use Rattle.circuit.specs.Checked.{Checked}
-use Rattle.faults.specs.Mirror.{wrong-size}
-use Rattle.slices.proofs.ChainLaws.{nothing, Left, bits-stop, bits-go, sizes-stop, sizes-go}
-use Rattle.checks.specs.declared.Done.the-variants.{Good, Refused}
-use Rattle.checks.specs.Answers.{done-answer, done-after}
-use Rattle.checks.proofs.FrontLaws.{Front, done-given, given-passed}
+use Rattle.theory_sharing.specs.Circuit.{wires}
+use Rattle.theory_sharing.specs.First.{first}
+use Rattle.theory_calls.specs.File.{inputs-of, circuit}
+use Rattle.theory_calls.specs.Plain.{plain}
+use Rattle.theory_calls.specs.Checks.{Refusal, refusal, row-buffer, fault, accepted, verdict}
+use Rattle.theory_calls.specs.AtBits.{bits-row}
+use Rattle.theory_calls.specs.Calls.{Plain, PlainOf, does}
+use Rattle.theory_calls.proofs.Refusals.{Without}
+use Rattle.theory_calls.proofs.CallLaws.{does-good}
+use Rattle.file_header.specs.declared.Counts.{Counts}
+use Rattle.file_header.specs.Opened.{Opened}
+use Rattle.file_parts.specs.Checked.{Checked}
+use Rattle.check_tests.specs.Mirror.{wrong-size}
+use Rattle.check_slices.proofs.ChainLaws.{nothing, Left, bits-stop, bits-go, sizes-stop, sizes-go}
+use Rattle.check_circuit.specs.declared.Done.the-variants.{Good, Refused}
+use Rattle.check_circuit.specs.Answers.{done-answer, done-after}
+use Rattle.check_circuit.proofs.FrontLaws.{Front, done-given, given-passed}
 
 module _ (f x vs : List ℕ) where
   abbrev sized : List Refusal

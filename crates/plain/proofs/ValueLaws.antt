@@ -12,21 +12,21 @@ use native.Mathlib.Omega.{arith}
 use lib.ListN.{length, getD, set, length-map, List·getD-map}
 use lib.Bits.{bitOr}
 use borrow.Author.Tests.{ne-eqb}
-use Rattle.sharing.specs.Circuit.{Circuit, wires}
-use Rattle.sharing.specs.Store.{fill}
-use Rattle.sharing.proofs.Parts.{map-snoc}
-use Rattle.sharing.proofs.StoreLaws.{fill-one, fill-read, fill-all}
-use Rattle.scope.specs.File.{inputs-of, gates-of, kind-at, first-at, second-at, gate-of, circuit}
-use Rattle.scope.specs.Plain.{bit, byte, plain-gate, plain-inputs, plain-values, plain}
-use Rattle.scope.proofs.PlainLaws.{byte-xor, byte-and, byte-not, inputs-length, values-length, plain-length}
-use Rattle.header.specs.declared.Counts.{Counts}
-use Rattle.circuit.specs.declared.Gate.{Gate}
-use Rattle.circuit.specs.declared.Gate.the-variants.{Is as GateIs}
-use Rattle.circuit.specs.Mirror.{gate-by}
-use Rattle.circuit.proofs.ReaderLaws.{gate-some}
-use Rattle.circuit.specs.Checked.{Checked}
-use Rattle.circuit.proofs.CheckedLaws.{operands-lower}
-use Rattle.circuit.specs.Loop.{up-to}
+use Rattle.theory_sharing.specs.Circuit.{Circuit, wires}
+use Rattle.theory_sharing.specs.Store.{fill}
+use Rattle.theory_sharing.proofs.Parts.{map-snoc}
+use Rattle.theory_sharing.proofs.StoreLaws.{fill-one, fill-read, fill-all}
+use Rattle.theory_calls.specs.File.{inputs-of, gates-of, kind-at, first-at, second-at, gate-of, circuit}
+use Rattle.theory_calls.specs.Plain.{bit, byte, plain-gate, plain-inputs, plain-values, plain}
+use Rattle.theory_calls.proofs.PlainLaws.{byte-xor, byte-and, byte-not, inputs-length, values-length, plain-length}
+use Rattle.file_header.specs.declared.Counts.{Counts}
+use Rattle.file_parts.specs.declared.Gate.{Gate}
+use Rattle.file_parts.specs.declared.Gate.the-variants.{Is as GateIs}
+use Rattle.file_parts.specs.Mirror.{gate-by}
+use Rattle.file_parts.proofs.ReaderLaws.{gate-some}
+use Rattle.file_parts.specs.Checked.{Checked}
+use Rattle.file_parts.proofs.CheckedLaws.{operands-lower}
+use Rattle.file_parts.specs.Loop.{up-to}
 use Rattle.plain.specs.Mirror.{kind-value, inputs-on, gate-on, gates-on}
 
 byte-either : (a b : Bool) → byte (a || b) ≡ bitOr (byte a) (byte b)

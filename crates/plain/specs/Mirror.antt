@@ -8,9 +8,9 @@ use Prim.Native.Nat.{ℕ, _+_}
 use lib.ListN.{getD, set}
 use lib.Dec.{eqb}
 use lib.Bits.{bitXor, bitAnd, bitOr}
-use Rattle.scope.specs.File.{kind-at, first-at, second-at}
-use Rattle.scope.specs.Plain.{bit, byte}
-use Rattle.circuit.specs.Loop.{up-to}
+use Rattle.theory_calls.specs.File.{kind-at, first-at, second-at}
+use Rattle.theory_calls.specs.Plain.{bit, byte}
+use Rattle.file_parts.specs.Loop.{up-to}
 
 unfoldable pub kind-value : ℕ → ℕ → ℕ → ℕ
 kind-value kind x y = cond (eqb kind 1) (bitXor x y) (cond (eqb kind 2) (bitAnd x y) (cond (eqb kind 3) (bitXor x 1) (bitOr x y)))

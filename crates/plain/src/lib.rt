@@ -3,16 +3,16 @@ ghost use mathlib.Core.Path.{_≡_};
 ghost use mathlib.Core.List.{[], _∷_};
 ghost use Prim.Native.Nat.{_+_, _<_, _≤_};
 ghost use lib.ListN.{length, getD, set};
-ghost use Rattle.scope.specs.File.{circuit};
-ghost use Rattle.scope.specs.Plain.{bit, byte, plain};
-ghost use Rattle.scope.specs.Calls.{Plain, does};
-ghost use Rattle.circuit.specs.Checked.{Checked};
-ghost use Rattle.checks.specs.Answers.{done-after};
+ghost use Rattle.theory_calls.specs.File.{circuit};
+ghost use Rattle.theory_calls.specs.Plain.{bit, byte, plain};
+ghost use Rattle.theory_calls.specs.Calls.{Plain, does};
+ghost use Rattle.file_parts.specs.Checked.{Checked};
+ghost use Rattle.check_circuit.specs.Answers.{done-after};
 ghost use Rattle.plain.specs.Mirror.{kind-value, inputs-on, gate-on, gates-on};
-use checks::Done;
-use circuit::Gate;
-use header::Counts;
-use header::Header;
+use check_circuit::Done;
+use file_header::Counts;
+use file_header::Header;
+use file_parts::Gate;
 
 // An input's value: 1 for every byte but 0, so that nobody has to know here that inputs are bits.
 fn input_value(x: u8) -> u8
@@ -41,11 +41,11 @@ fn gate_value(kind: u16, x: u8, y: u8) -> u8
 }
 
 // Input k makes wire k.
-fn input_step(xs: &[u8], values: &mut [u8], k: usize)
-    requires { ⌜ (k < length (now xs)) × (k < length (now values)) ⌝ }
-    ensures { λ _. ⌜ now (values .exit) ≡ set (now (values .entry)) k (byte (bit (getD (now (xs .entry)) k 0))) ⌝ }
+fn input_step(inputs: &[u8], values: &mut [u8], k: usize)
+    requires { ⌜ (k < length (now inputs)) × (k < length (now values)) ⌝ }
+    ensures { λ _. ⌜ now (values .exit) ≡ set (now (values .entry)) k (byte (bit (getD (now (inputs .entry)) k 0))) ⌝ }
 {
-    let v = input_value(xs[k]);
+    let v = input_value(inputs[k]);
     values[k] = v;
 }
 
@@ -56,7 +56,7 @@ fn gate_step(file: &[u8], c: Counts, values: &mut [u8], k: usize)
     ensures { λ _. ⌜ now (values .exit) ≡ gate-on (now (file .entry)) (c .inputs) k (now (values .entry)) ⌝ }
 {
     let w = c.inputs + k;
-    let r = reader::gate_with(file, c, k);
+    let r = file_reader::gate_with(file, c, k);
     let Gate::Is(kind, a, b) = r else {
         return;
     };
@@ -67,14 +67,14 @@ fn gate_step(file: &[u8], c: Counts, values: &mut [u8], k: usize)
 }
 
 // All inputs, one after the other.
-fn inputs_pass(xs: &[u8], values: &mut [u8])
-    requires { ⌜ length (now xs) ≤ length (now values) ⌝ }
-    ensures { λ _. ⌜ now (values .exit) ≡ inputs-on (now (xs .entry)) (now (values .entry)) (length (now (xs .entry))) ⌝ }
+fn inputs_pass(inputs: &[u8], values: &mut [u8])
+    requires { ⌜ length (now inputs) ≤ length (now values) ⌝ }
+    ensures { λ _. ⌜ now (values .exit) ≡ inputs-on (now (inputs .entry)) (now (values .entry)) (length (now (inputs .entry))) ⌝ }
 {
-    let n = xs.len();
+    let n = inputs.len();
     let mut k: usize = 0;
     while k < n {
-        input_step(xs, values, k);
+        input_step(inputs, values, k);
         k += 1;
     }
 }
@@ -95,12 +95,12 @@ fn gates_pass(file: &[u8], c: Counts, values: &mut [u8])
 
 // Behind all checks: the values of all wires, in a buffer, or a part of one, of W bytes. What stood there does not matter. What is behind 1 to 6
 // asks it, and re-taping, for both its sets of inputs.
-pub fn values_pass(file: &[u8], c: Counts, xs: &[u8], values: &mut [u8])
-    requires { ⌜ Checked (now file) c × (length (now xs) ≡ c .inputs) ⌝ }
+pub fn values_pass(file: &[u8], c: Counts, inputs: &[u8], values: &mut [u8])
+    requires { ⌜ Checked (now file) c × (length (now inputs) ≡ c .inputs) ⌝ }
     requires { ⌜ length (now values) ≡ c .inputs + c .gates ⌝ }
-    ensures { λ _. ⌜ now (values .exit) ≡ plain (circuit (now (file .entry))) (now (xs .entry)) ⌝ }
+    ensures { λ _. ⌜ now (values .exit) ≡ plain (circuit (now (file .entry))) (now (inputs .entry)) ⌝ }
 {
-    inputs_pass(xs, values);
+    inputs_pass(inputs, values);
     gates_pass(file, c, values);
 }
 
@@ -110,7 +110,7 @@ pub fn plain_opened(file: &[u8], c: Counts, inputs: &[u8], values: &mut [u8]) ->
     requires { ⌜ Checked (now file) c ⌝ }
     ensures { λ r. ⌜ done-after r (now (values .exit) ∷ []) ≡ does (Plain (now (file .entry)) (now (inputs .entry)) (now (values .entry))) ⌝ }
 {
-    let x = slices::bits_fault(inputs, c.inputs);
+    let x = check_slices::bits_fault(inputs, c.inputs);
     if x <= c.inputs {
         return Done::Refused(7, x);
     }
@@ -125,9 +125,9 @@ pub fn plain_opened(file: &[u8], c: Counts, inputs: &[u8], values: &mut [u8]) ->
 pub fn plain_values(file: &[u8], inputs: &[u8], values: &mut [u8]) -> Done
     ensures { λ r. ⌜ done-after r (now (values .exit) ∷ []) ≡ does (Plain (now (file .entry)) (now (inputs .entry)) (now (values .entry))) ⌝ }
 {
-    let h = checks::check_file(file);
+    let h = check_circuit::check_file(file);
     let Header::Good(c) = h else {
-        return checks::refused(h);
+        return check_circuit::refused(h);
     };
     plain_opened(file, c, inputs, values)
 }

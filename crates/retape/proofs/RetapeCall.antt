@@ -11,30 +11,30 @@ use native.Mathlib.Omega.{arith}
 use lib.ListN.{length, take}
 use lib.Seq.{take-at}
 use borrow.Author.Tests.{ne-eqb}
-use Rattle.sharing.specs.Ops.{bits}
-use Rattle.sharing.specs.Circuit.{ands}
-use Rattle.sharing.specs.Retape.{new-tapes}
-use Rattle.sharing.specs.Store.{fill}
-use Rattle.scope.specs.File.{inputs-of, site-of, circuit}
-use Rattle.scope.specs.Plain.{plain}
-use Rattle.scope.specs.Checks.{Refusal, refusal, tapes-want, fault, accepted, verdict}
-use Rattle.scope.specs.Calls.{Call, Retape, RetapeOf, retape-wants, at-wire, both-plain-of, does}
-use Rattle.scope.specs.AtBits.{row-differs, both-plain, work-room}
-use Rattle.scope.specs.Statements.{Bits}
-use Rattle.scope.proofs.Refusals.{Passes, Without, accepted-passes, row-refuses, row-passes}
-use Rattle.scope.proofs.RowLaws.{bits-clear, sizes-clear}
-use Rattle.scope.proofs.CallLaws.{does-good, does-refused}
-use Rattle.scope.proofs.PlainLaws.{plain-length}
-use Rattle.sharing.proofs.StoreLaws.{fill-length}
+use Rattle.theory_sharing.specs.Ops.{bits}
+use Rattle.theory_sharing.specs.Circuit.{ands}
+use Rattle.theory_sharing.specs.Retape.{new-tapes}
+use Rattle.theory_sharing.specs.Store.{fill}
+use Rattle.theory_calls.specs.File.{inputs-of, site-of, circuit}
+use Rattle.theory_calls.specs.Plain.{plain}
+use Rattle.theory_calls.specs.Checks.{Refusal, refusal, tapes-want, fault, accepted, verdict}
+use Rattle.theory_calls.specs.Calls.{Call, Retape, RetapeOf, retape-wants, at-wire, both-plain-of, does}
+use Rattle.theory_calls.specs.AtBits.{row-differs, both-plain, work-room}
+use Rattle.theory_calls.specs.Statements.{Bits}
+use Rattle.theory_calls.proofs.Refusals.{Passes, Without, accepted-passes, row-refuses, row-passes}
+use Rattle.theory_calls.proofs.RowLaws.{bits-clear, sizes-clear}
+use Rattle.theory_calls.proofs.CallLaws.{does-good, does-refused}
+use Rattle.theory_calls.proofs.PlainLaws.{plain-length}
+use Rattle.theory_sharing.proofs.StoreLaws.{fill-length}
 use lib.ListN.{length-append}
-use Rattle.header.specs.declared.Counts.{Counts}
-use Rattle.header.specs.Opened.{Opened}
-use Rattle.circuit.specs.Checked.{Checked}
-use Rattle.checks.specs.declared.Done.the-variants.{Good, Refused}
-use Rattle.checks.specs.Answers.{done-answer, done-after}
-use Rattle.checks.proofs.FrontLaws.{Front, given-passed}
-use Rattle.slices.proofs.ChainLaws.{nothing}
-use Rattle.given.proofs.GivenLaws.{tapes-are}
+use Rattle.file_header.specs.declared.Counts.{Counts}
+use Rattle.file_header.specs.Opened.{Opened}
+use Rattle.file_parts.specs.Checked.{Checked}
+use Rattle.check_circuit.specs.declared.Done.the-variants.{Good, Refused}
+use Rattle.check_circuit.specs.Answers.{done-answer, done-after}
+use Rattle.check_circuit.proofs.FrontLaws.{Front, given-passed}
+use Rattle.check_slices.proofs.ChainLaws.{nothing}
+use Rattle.check_given.proofs.GivenLaws.{tapes-are}
 use Rattle.retape.specs.Mirror.{retape-checks}
 
 -- what the checks in front of 13 leave

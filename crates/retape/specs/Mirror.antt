@@ -1,11 +1,11 @@
 -- What re-taping checks behind its circuit and in front of 13, by the lengths of its buffers. No public contract cites it.
 use mathlib.Core.List.{List, [], _∷_, _++_}
 use Prim.Native.Nat.{ℕ}
-use Rattle.scope.specs.File.{inputs-of, circuit}
-use Rattle.scope.specs.Checks.{Refusal, refusal, row-site, row-buffer}
-use Rattle.scope.specs.AtBits.{bits-row}
-use Rattle.scope.specs.Calls.{retape-wants}
-use Rattle.given.specs.Mirror.{slices-checks}
+use Rattle.theory_calls.specs.File.{inputs-of, circuit}
+use Rattle.theory_calls.specs.Checks.{Refusal, refusal, row-site, row-buffer}
+use Rattle.theory_calls.specs.AtBits.{bits-row}
+use Rattle.theory_calls.specs.Calls.{retape-wants}
+use Rattle.check_given.specs.Mirror.{slices-checks}
 
 abbrev pub retape-checks : List ℕ → List ℕ → List ℕ → List ℕ → ℕ → ℕ → ℕ → List Refusal
 retape-checks f x t y s n r =

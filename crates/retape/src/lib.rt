@@ -3,40 +3,40 @@ ghost use mathlib.Core.Path.{_≡_};
 ghost use mathlib.Core.List.{[], _∷_};
 ghost use Prim.Native.Nat.{_≤_};
 ghost use lib.ListN.{length};
-ghost use Rattle.sharing.specs.Circuit.{ands};
-ghost use Rattle.scope.specs.File.{circuit};
-ghost use Rattle.scope.specs.Checks.{accepted, verdict};
-ghost use Rattle.scope.specs.Calls.{Retape, does};
-ghost use Rattle.header.specs.Opened.{Opened};
-ghost use Rattle.circuit.specs.Checked.{Checked};
-ghost use Rattle.checks.specs.Answers.{done-after};
-ghost use Rattle.given.specs.Mirror.{found};
+ghost use Rattle.theory_sharing.specs.Circuit.{ands};
+ghost use Rattle.theory_calls.specs.File.{circuit};
+ghost use Rattle.theory_calls.specs.Checks.{accepted, verdict};
+ghost use Rattle.theory_calls.specs.Calls.{Retape, does};
+ghost use Rattle.file_header.specs.Opened.{Opened};
+ghost use Rattle.file_parts.specs.Checked.{Checked};
+ghost use Rattle.check_circuit.specs.Answers.{done-after};
+ghost use Rattle.check_given.specs.Mirror.{found};
 ghost use Rattle.retape.specs.Mirror.{retape-checks};
-use checks::Done;
-use given::Fault;
-use header::Counts;
-use header::Header;
+use check_circuit::Done;
+use check_given::Fault;
+use file_header::Counts;
+use file_header::Header;
 
 // 7, 8, 11, 10 and 12 on an opened circuit of a AND and OR gates: slices, the site, the lengths of both buffers, the second inputs.
 fn given_fault(
     file: &[u8],
     c: Counts,
     a: usize,
-    xs: &[u8],
+    inputs: &[u8],
     tapes: &[u8],
-    ys: &[u8],
+    second: &[u8],
     site: usize,
     fresh: usize,
     room: usize,
 ) -> Fault
     requires { ⌜ Opened (now file) c × (a ≡ ands (circuit (now file) .gate) (c .gates)) × (a ≤ c .gates) ⌝ }
-    ensures { λ r. ⌜ found r ≡ verdict (retape-checks (now (file .entry)) (now (xs .entry)) (now (tapes .entry)) (now (ys .entry)) site fresh room) ⌝ }
+    ensures { λ r. ⌜ found r ≡ verdict (retape-checks (now (file .entry)) (now (inputs .entry)) (now (tapes .entry)) (now (second .entry)) site fresh room) ⌝ }
 {
-    let f = given::slices_fault(file, c, a, xs, tapes);
+    let f = check_given::slices_fault(file, c, a, inputs, tapes);
     if f.number != 0 {
         return f;
     }
-    if !faults::site_good(site) {
+    if !check_tests::site_good(site) {
         return Fault {
             number: 11,
             place: 0,
@@ -44,14 +44,14 @@ fn given_fault(
     }
     let sizes = [fresh, room];
     let wants = [2 * c.inputs + 6 * a, 4 * (c.inputs + c.gates)];
-    let b = slices::first_size(&sizes, &wants);
+    let b = check_slices::first_size(&sizes, &wants);
     if b < 2 {
         return Fault {
             number: 10,
             place: b,
         };
     }
-    let y = slices::bits_fault(ys, c.inputs);
+    let y = check_slices::bits_fault(second, c.inputs);
     if y <= c.inputs {
         return Fault {
             number: 12,
@@ -81,12 +81,12 @@ pub fn retape_given(
     requires { ⌜ verdict (retape-checks (now file) (now inputs) (now tapes) (now second) site (length (now fresh)) (length (now room))) ≡ accepted ⌝ }
     ensures { λ r. ⌜ done-after r (now (fresh .exit) ∷ now (room .exit) ∷ []) ≡ does (Retape (now (file .entry)) (now (inputs .entry)) (now (tapes .entry)) (now (second .entry)) site (now (fresh .entry)) (now (room .entry))) ⌝ }
 {
-    renew::both_values(file, c, inputs, second, room);
-    let d = differs::differ(file, c, site, inputs, second, room);
+    retape_tapes::both_values(file, c, inputs, second, room);
+    let d = retape_differs::differ(file, c, site, inputs, second, room);
     if d < c.inputs + c.outputs {
         return Done::Refused(13, d);
     }
-    renew::renew(file, c, a, site, inputs, second, tapes, fresh, room);
+    retape_tapes::renew(file, c, a, site, inputs, second, tapes, fresh, room);
     Done::Good
 }
 
@@ -105,7 +105,7 @@ pub fn retape_opened(
     requires { ⌜ Checked (now file) c ⌝ }
     ensures { λ r. ⌜ done-after r (now (fresh .exit) ∷ now (room .exit) ∷ []) ≡ does (Retape (now (file .entry)) (now (inputs .entry)) (now (tapes .entry)) (now (second .entry)) site (now (fresh .entry)) (now (room .entry))) ⌝ }
 {
-    let a = tally::count_ands(file, c);
+    let a = file_counts::count_ands(file, c);
     let f = given_fault(
         file,
         c,
@@ -136,9 +136,9 @@ pub fn retape(
 ) -> Done
     ensures { λ r. ⌜ done-after r (now (fresh .exit) ∷ now (room .exit) ∷ []) ≡ does (Retape (now (file .entry)) (now (inputs .entry)) (now (tapes .entry)) (now (second .entry)) site (now (fresh .entry)) (now (room .entry))) ⌝ }
 {
-    let h = checks::check_file(file);
+    let h = check_circuit::check_file(file);
     let Header::Good(c) = h else {
-        return checks::refused(h);
+        return check_circuit::refused(h);
     };
     retape_opened(file, c, inputs, tapes, second, site, fresh, room)
 }

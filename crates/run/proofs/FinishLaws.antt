@@ -13,29 +13,29 @@ use native.Mathlib.Nat.{eq-or-lt-of-le, le-of-eq}
 use lib.ListN.{length}
 use lib.Dec.{ltb, eqb}
 use borrow.Author.Tests.{lt-ltb}
-use Rattle.sharing.specs.Ops.{bits}
-use Rattle.sharing.specs.Circuit.{Circuit, Draws, Errors, wires, all-ands}
-use Rattle.sharing.specs.First.{first}
-use Rattle.sharing.specs.Run.{after, gates-delivered, opens-delivered, objects, stop, made, transcript, outputs}
-use Rattle.sharing.specs.Tapes.{read}
-use Rattle.sharing.specs.Line.{errors}
-use Rattle.sharing.specs.Store.{store, fill}
-use Rattle.sharing.proofs.FirstLaws.{first-at, first-none, first-le, first-hit, first-before, first-clear}
-use Rattle.sharing.proofs.StoreLaws.{fill-all}
-use Rattle.sharing.proofs.RunLaws.{quiet-made, stop-le, outputs-length}
-use Rattle.scope.specs.File.{circuit}
-use Rattle.scope.specs.Answer.{good, abort, After}
-use Rattle.scope.specs.Calls.{at-wire}
-use Rattle.scope.specs.AtBits.{ran}
-use Rattle.scope.proofs.RunCall.{ran-quiet, ran-stopped}
-use Rattle.header.specs.declared.Counts.{Counts}
-use Rattle.engine.specs.Mirror.{objects-on, opens-on, hands-on}
-use Rattle.link.proofs.OpensLaw.{objects-law, opens-law, hands-law}
+use Rattle.theory_sharing.specs.Ops.{bits}
+use Rattle.theory_sharing.specs.Circuit.{Circuit, Draws, Errors, wires, all-ands}
+use Rattle.theory_sharing.specs.First.{first}
+use Rattle.theory_sharing.specs.Run.{after, gates-delivered, opens-delivered, objects, stop, made, transcript, outputs}
+use Rattle.theory_sharing.specs.Tapes.{read}
+use Rattle.theory_sharing.specs.Line.{errors}
+use Rattle.theory_sharing.specs.Store.{store, fill}
+use Rattle.theory_sharing.proofs.FirstLaws.{first-at, first-none, first-le, first-hit, first-before, first-clear}
+use Rattle.theory_sharing.proofs.StoreLaws.{fill-all}
+use Rattle.theory_sharing.proofs.RunLaws.{quiet-made, stop-le, outputs-length}
+use Rattle.theory_calls.specs.File.{circuit}
+use Rattle.theory_calls.specs.Answer.{good, abort, After}
+use Rattle.theory_calls.specs.Calls.{at-wire}
+use Rattle.theory_calls.specs.AtBits.{ran}
+use Rattle.theory_calls.proofs.RunCall.{ran-quiet, ran-stopped}
+use Rattle.file_header.specs.declared.Counts.{Counts}
+use Rattle.run_passes.specs.Mirror.{objects-on, opens-on, hands-on}
+use Rattle.run_laws.proofs.OpensLaw.{objects-law, opens-law, hands-law}
 use Rattle.run.specs.declared.Ran.the-variants.{Good, Abort}
 use Rattle.run.specs.Answers.{run-answer, run-after}
-use Rattle.given.specs.Mirror.{counts-of}
+use Rattle.check_given.specs.Mirror.{counts-of}
 use Rattle.run.specs.Mirror.{Ready}
-use Rattle.given.proofs.GivenLaws.{counts-are}
+use Rattle.check_given.proofs.GivenLaws.{counts-are}
 
 pub first-ext : (p q : ℕ → Bool) (n : ℕ) → ((k : ℕ) → k < n → p k ≡ q k) → first p n ≡ first q n
 first-ext p q n h = ⊎-elim none some (eq-or-lt-of-le (first-le q n))
@@ -108,7 +108,7 @@ module _ (f xs tapes line tr outs s t : List ℕ) (x p l o r q : ℕ) (d : Ready
         = j .1 .0 ∙ ap (λ (b : Bool). cond b (objects-on f line s n at k) 0) (lt-ltb k (C .outs) h) ∙ objects-law f line X T n refl s es k ∙ ap (objects bits C X T E) at-stop in
         let K = at-stop in let R = told in
         (λ i. record { answer = abort (K i) (M i); returned = []; lent = outs ∷ R i ∷ es i ∷ [] })
-        ∙ sym (ran-stopped C X T E outs tr (subst (λ (z : ℕ). z < C .outs) K h))
+        ∙ sym (ran-stopped bits C X T E outs tr (subst (λ (z : ℕ). z < C .outs) K h))
 
     through-at : (o′ : List ℕ) → C .outs ≤ k → Handed f t′ s (counts-of f) at outs o′ → run-after Good o′ t′ s ≡ ran C X T E outs tr
     unfolding run-answer transcript
@@ -122,7 +122,7 @@ module _ (f xs tapes line tr outs s t : List ℕ) (x p l o r q : ℕ) (d : Ready
         = e ∙ ap (λ (z : List ℕ). hands-on f z s n at outs (C .outs)) R
         ∙ hands-law f line X T n refl s es tr (made bits C X T E) outs (C .outs) (omega arith) (omega arith)
         ∙ fill-all outs (outputs bits C X T E (C .outs)) (outputs-length bits C X T E (C .outs) ∙ omega arith) in
-        (λ i. record { answer = good []; returned = []; lent = H i ∷ R i ∷ es i ∷ [] }) ∙ sym (ran-quiet C X T E outs tr Q)
+        (λ i. record { answer = good []; returned = []; lent = H i ∷ R i ∷ es i ∷ [] }) ∙ sym (ran-quiet bits C X T E outs tr Q)
 
 -- and so at the counts and the place that the code holds
 module _ (f xs tapes line tr outs s t : List ℕ) (x p l o r q : ℕ) (c : Counts) (d : Ready f c x p l o r q) (lo : o ≡ length outs) (lr : r ≡ length tr) (at : ℕ)

@@ -8,29 +8,29 @@ use mathlib.Core.List.{List, [], _∷_}
 use native.Mathlib.Omega.{arith}
 use Prim.Native.Nat.{ℕ, _+_, _*_}
 use lib.ListN.{length}
-use Rattle.sharing.specs.Tapes.{read}
-use Rattle.sharing.specs.Line.{errors}
-use Rattle.scope.specs.File.{circuit}
-use Rattle.scope.specs.Answer.{Answer, good, abort, refused}
-use Rattle.scope.specs.Checks.{Refusal, accepted, refuses, verdict}
-use Rattle.scope.specs.Calls.{Call, Check, Run, RunOf, answers, at-wire, does, Accepts}
-use Rattle.scope.specs.AtBits.{ran}
-use Rattle.scope.proofs.Refusals.{Without}
-use Rattle.scope.proofs.CallLaws.{verdict-accepts}
-use Rattle.scope.proofs.Accepted.{RunOk, run-ok}
-use Rattle.scope.proofs.RunCall.{run-does}
-use Rattle.header.specs.declared.Counts.{Counts}
-use Rattle.header.specs.declared.Header.{Header}
-use Rattle.header.specs.declared.Header.the-variants.{Refused as HeaderRefused}
-use Rattle.header.specs.Answers.{header-answer}
-use Rattle.header.proofs.OpenLaws.{one-result}
-use Rattle.circuit.specs.Checked.{Checked}
-use Rattle.checks.proofs.FrontLaws.{Front, circuit-refused, given-refused, given-passed}
-use Rattle.slices.proofs.ChainLaws.{nothing}
+use Rattle.theory_sharing.specs.Tapes.{read}
+use Rattle.theory_sharing.specs.Line.{errors}
+use Rattle.theory_calls.specs.File.{circuit}
+use Rattle.theory_calls.specs.Answer.{Answer, good, abort, refused}
+use Rattle.theory_calls.specs.Checks.{Refusal, accepted, refuses, verdict}
+use Rattle.theory_calls.specs.Calls.{Call, Check, Run, RunOf, answers, at-wire, does, Accepts}
+use Rattle.theory_calls.specs.AtBits.{ran}
+use Rattle.theory_calls.proofs.Refusals.{Without}
+use Rattle.theory_calls.proofs.CallLaws.{verdict-accepts}
+use Rattle.theory_calls.proofs.Accepted.{RunOk, run-ok}
+use Rattle.theory_calls.proofs.RunCall.{run-does}
+use Rattle.file_header.specs.declared.Counts.{Counts}
+use Rattle.file_header.specs.declared.Header.{Header}
+use Rattle.file_header.specs.declared.Header.the-variants.{Refused as HeaderRefused}
+use Rattle.file_header.specs.Answers.{header-answer}
+use Rattle.file_header.proofs.OpenLaws.{one-result}
+use Rattle.file_parts.specs.Checked.{Checked}
+use Rattle.check_circuit.proofs.FrontLaws.{Front, circuit-refused, given-refused, given-passed}
+use Rattle.check_slices.proofs.ChainLaws.{nothing}
 use Rattle.run.specs.declared.Ran.{Ran}
 use Rattle.run.specs.declared.Ran.the-variants.{Good, Abort, Refused}
 use Rattle.run.specs.Answers.{run-answer, run-after}
-use Rattle.given.specs.Mirror.{run-checks}
+use Rattle.check_given.specs.Mirror.{run-checks}
 use Rattle.run.specs.Mirror.{refusal-of, Ready}
 
 module _ (f x t l outs tr st : List ℕ) where

@@ -7,27 +7,27 @@ use mathlib.Core.List.{List}
 use Prim.Native.Nat.{ℕ, _+_, _*_, _≤_}
 use native.Mathlib.Omega.{arith}
 use lib.ListN.{length}
-use Rattle.sharing.specs.Sites.{s1, s2, s3}
-use Rattle.sharing.specs.Circuit.{Circuit, wires, ands, all-ands, owned, all-owned}
-use Rattle.sharing.specs.Tapes.{tape-length}
-use Rattle.scope.specs.File.{inputs-of, gates-of, circuit}
-use Rattle.header.specs.declared.Counts.{Counts}
-use Rattle.engine.specs.declared.Pos.{Pos}
-use Rattle.engine.specs.Mirror.{St, st, Room, InRoom, inputs-on, gates-on}
-use Rattle.engine.proofs.EngineLaws.{lower-of, in-moved, inputs-pos}
-use Rattle.link.specs.Loops.{place}
-use Rattle.link.proofs.WholeLaw.{whole-law}
-use Rattle.sharing.specs.Ops.{bits}
-use Rattle.sharing.specs.Run.{after, gates-delivered}
-use Rattle.sharing.specs.Tapes.{read}
-use Rattle.sharing.specs.Line.{errors}
-use Rattle.sharing.specs.Store.{store, fill}
-use Rattle.sharing.proofs.TapeLaws.{tapes-length}
-use Rattle.scope.specs.Calls.{at-wire}
-use Rattle.scope.proofs.Limits.{ands-most}
-use Rattle.link.specs.Loops.{base, in-places, in-place}
-use Rattle.given.specs.Mirror.{counts-of}
-use Rattle.given.proofs.GivenLaws.{counts-are}
+use Rattle.theory_sharing.specs.Sites.{s1, s2, s3}
+use Rattle.theory_sharing.specs.Circuit.{Circuit, wires, ands, all-ands, owned, all-owned}
+use Rattle.theory_sharing.specs.Tapes.{tape-length}
+use Rattle.theory_calls.specs.File.{inputs-of, gates-of, circuit}
+use Rattle.file_header.specs.declared.Counts.{Counts}
+use Rattle.run_passes.specs.declared.Pos.{Pos}
+use Rattle.run_passes.specs.Mirror.{St, st, Room, InRoom, inputs-on, gates-on}
+use Rattle.run_passes.proofs.EngineLaws.{lower-of, in-moved, inputs-pos}
+use Rattle.run_laws.specs.Loops.{place}
+use Rattle.run_laws.proofs.WholeLaw.{whole-law}
+use Rattle.theory_sharing.specs.Ops.{bits}
+use Rattle.theory_sharing.specs.Run.{after, gates-delivered}
+use Rattle.theory_sharing.specs.Tapes.{read}
+use Rattle.theory_sharing.specs.Line.{errors}
+use Rattle.theory_sharing.specs.Store.{store, fill}
+use Rattle.theory_sharing.proofs.TapeLaws.{tapes-length}
+use Rattle.theory_calls.specs.Calls.{at-wire}
+use Rattle.theory_calls.proofs.Limits.{ands-most}
+use Rattle.run_laws.specs.Loops.{base, in-places, in-place}
+use Rattle.check_given.specs.Mirror.{counts-of}
+use Rattle.check_given.proofs.GivenLaws.{counts-are}
 use Rattle.run.specs.Mirror.{Ready}
 
 -- ---- what the passes have room for, at the counts that stand in the file

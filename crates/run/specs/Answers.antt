@@ -1,7 +1,7 @@
 -- 01's number and values for each case of a run's answer. Promises go through this.
 use mathlib.Core.List.{List, [], _∷_}
 use Prim.Native.Nat.{ℕ}
-use Rattle.scope.specs.Answer.{Answer, good, abort, refused, After}
+use Rattle.theory_calls.specs.Answer.{Answer, good, abort, refused, After}
 use Rattle.run.specs.declared.Ran.{Ran}
 use Rattle.run.specs.declared.Ran.the-variants.{Good, Abort, Refused}
 

@@ -4,12 +4,12 @@
 use mathlib.Core.Path.{_≡_}
 use mathlib.Core.List.{List}
 use Prim.Native.Nat.{ℕ, _+_, _*_}
-use Rattle.scope.specs.File.{circuit}
-use Rattle.scope.specs.Checks.{tapes-want, line-want}
-use Rattle.header.specs.declared.Counts.{Counts}
-use Rattle.circuit.specs.Checked.{Checked}
-use Rattle.header.specs.declared.Header.{Header}
-use Rattle.header.specs.declared.Header.the-variants.{Good, Refused as HeaderRefused}
+use Rattle.theory_calls.specs.File.{circuit}
+use Rattle.theory_calls.specs.Checks.{tapes-want, line-want}
+use Rattle.file_header.specs.declared.Counts.{Counts}
+use Rattle.file_parts.specs.Checked.{Checked}
+use Rattle.file_header.specs.declared.Header.{Header}
+use Rattle.file_header.specs.declared.Header.the-variants.{Good, Refused as HeaderRefused}
 use Rattle.run.specs.declared.Ran.{Ran}
 use Rattle.run.specs.declared.Ran.the-variants.{Refused}
 

@@ -2,23 +2,18 @@
 ghost use mathlib.Core.Path.{_≡_};
 ghost use Prim.Native.Nat.{_+_, _*_, _<_, _≤_};
 ghost use lib.ListN.{length};
-ghost use Rattle.sharing.specs.Ops.{bits};
-ghost use Rattle.sharing.specs.Circuit.{ands, all-ands};
-ghost use Rattle.sharing.specs.Run.{after, gates-delivered};
-ghost use Rattle.sharing.specs.Tapes.{read};
-ghost use Rattle.sharing.specs.Line.{errors};
-ghost use Rattle.sharing.specs.Store.{fill};
-ghost use Rattle.sharing.specs.Store.{store as storing};
-ghost use Rattle.scope.specs.File.{circuit};
-ghost use Rattle.scope.specs.Calls.{at-wire, Run, does};
-ghost use Rattle.scope.specs.AtBits.{ran};
-ghost use Rattle.circuit.specs.Checked.{Checked};
-ghost use Rattle.link.specs.Loops.{in-place};
+ghost use Rattle.theory_sharing.specs.Circuit.{ands, all-ands};
+ghost use Rattle.theory_sharing.specs.Store.{fill};
+ghost use Rattle.theory_calls.specs.File.{circuit};
+ghost use Rattle.theory_calls.specs.Calls.{Run, does};
+ghost use Rattle.theory_calls.specs.AtBits.{ran-on, store-on, told-on};
+ghost use Rattle.file_parts.specs.Checked.{Checked};
+ghost use Rattle.run_laws.specs.Loops.{in-place};
 ghost use Rattle.run.specs.Answers.{run-after};
 ghost use Rattle.run.specs.Mirror.{refusal-of, Ready};
-use engine::Pos;
-use header::Counts;
-use header::Header;
+use file_header::Counts;
+use file_header::Header;
+use run_passes::Pos;
 
 // Good; an abort's output and the sum of its objecting sites; a refusal's number and place.
 pub enum Ran {
@@ -31,22 +26,22 @@ pub enum Ran {
 fn shares(
     file: &[u8],
     c: Counts,
-    xs: &[u8],
+    inputs: &[u8],
     tapes: &[u8],
     line: &[u8],
     store: &mut [u8],
-    room: &mut [u8],
+    transcript: &mut [u8],
     outs: usize,
     pos: Pos,
 ) -> usize
-    requires { ⌜ Ready (now file) c (length (now xs)) (length (now tapes)) (length (now line)) outs (length (now room)) (length (now store)) ⌝ }
+    requires { ⌜ Ready (now file) c (length (now inputs)) (length (now tapes)) (length (now line)) outs (length (now transcript)) (length (now store)) ⌝ }
     requires { ⌜ pos ≡ in-place (circuit (now file)) 0 ⌝ }
     ensures { λ r. ⌜ r ≡ 4 * circuit (now (file .entry)) .ins + 12 * all-ands (circuit (now (file .entry))) ⌝ }
-    ensures { λ _. ⌜ now (store .exit) ≡ storing (after bits (circuit (now (file .entry))) (at-wire (now (xs .entry))) (read (circuit (now (file .entry))) (now (tapes .entry))) (errors (circuit (now (file .entry))) (now (line .entry))) (circuit (now (file .entry)) .gates)) ⌝ }
-    ensures { λ _. ⌜ now (room .exit) ≡ fill (now (room .entry)) (gates-delivered bits (circuit (now (file .entry))) (at-wire (now (xs .entry))) (read (circuit (now (file .entry))) (now (tapes .entry))) (errors (circuit (now (file .entry))) (now (line .entry))) (circuit (now (file .entry)) .gates)) ⌝ }
+    ensures { λ _. ⌜ now (store .exit) ≡ store-on (now (file .entry)) (now (inputs .entry)) (now (tapes .entry)) (now (line .entry)) ⌝ }
+    ensures { λ _. ⌜ now (transcript .exit) ≡ fill (now (transcript .entry)) (told-on (now (file .entry)) (now (inputs .entry)) (now (tapes .entry)) (now (line .entry))) ⌝ }
 {
-    let q = engine::inputs_pass(file, c, xs, tapes, line, store, room, pos);
-    let z = engine::gates_pass(file, c, tapes, line, store, room, q);
+    let q = run_passes::inputs_pass(file, c, inputs, tapes, line, store, transcript, pos);
+    let z = run_passes::gates_pass(file, c, tapes, line, store, transcript, q);
     z.at
 }
 
@@ -56,25 +51,25 @@ pub fn run_checked(
     file: &[u8],
     c: Counts,
     a: usize,
-    xs: &[u8],
+    inputs: &[u8],
     tapes: &[u8],
     line: &[u8],
     outs: &mut [u8],
-    room: &mut [u8],
+    transcript: &mut [u8],
     store: &mut [u8],
 ) -> Ran
-    requires { ⌜ Ready (now file) c (length (now xs)) (length (now tapes)) (length (now line)) (length (now outs)) (length (now room)) (length (now store)) ⌝ }
+    requires { ⌜ Ready (now file) c (length (now inputs)) (length (now tapes)) (length (now line)) (length (now outs)) (length (now transcript)) (length (now store)) ⌝ }
     requires { ⌜ (a ≡ ands (circuit (now file) .gate) (c .gates)) × (a ≤ c .gates) ⌝ }
-    ensures { λ r. ⌜ run-after r (now (outs .exit)) (now (room .exit)) (now (store .exit)) ≡ ran (circuit (now (file .entry))) (at-wire (now (xs .entry))) (read (circuit (now (file .entry))) (now (tapes .entry))) (errors (circuit (now (file .entry))) (now (line .entry))) (now (outs .entry)) (now (room .entry)) ⌝ }
+    ensures { λ r. ⌜ run-after r (now (outs .exit)) (now (transcript .exit)) (now (store .exit)) ≡ ran-on (now (file .entry)) (now (inputs .entry)) (now (tapes .entry)) (now (line .entry)) (now (outs .entry)) (now (transcript .entry)) ⌝ }
 {
     let k = outs.len();
-    let pos = start::begin(file, c, a);
-    let at = shares(file, c, xs, tapes, line, store, room, k, pos);
-    let s = openings::judge(file, c, line, store, room, at);
+    let pos = run_start::begin(file, c, a);
+    let at = shares(file, c, inputs, tapes, line, store, transcript, k, pos);
+    let s = run_openings::judge(file, c, line, store, transcript, at);
     if s.output < c.outputs {
         return Ran::Abort(s.output, s.sites);
     }
-    openings::hand_over(file, c, store, room, outs, at);
+    run_openings::hand_over(file, c, store, transcript, outs, at);
     Ran::Good
 }
 
@@ -103,8 +98,8 @@ pub fn run_opened(
     requires { ⌜ Checked (now file) c ⌝ }
     ensures { λ r. ⌜ run-after r (now (outputs .exit)) (now (transcript .exit)) (now (store .exit)) ≡ does (Run (now (file .entry)) (now (inputs .entry)) (now (tapes .entry)) (now (line .entry)) (now (outputs .entry)) (now (transcript .entry)) (now (store .entry))) ⌝ }
 {
-    let a = tally::count_ands(file, c);
-    let f = given::given_fault(
+    let a = file_counts::count_ands(file, c);
+    let f = check_given::given_fault(
         file,
         c,
         a,
@@ -134,7 +129,7 @@ pub fn run(
 ) -> Ran
     ensures { λ r. ⌜ run-after r (now (outputs .exit)) (now (transcript .exit)) (now (store .exit)) ≡ does (Run (now (file .entry)) (now (inputs .entry)) (now (tapes .entry)) (now (line .entry)) (now (outputs .entry)) (now (transcript .entry)) (now (store .entry))) ⌝ }
 {
-    let h = checks::check_file(file);
+    let h = check_circuit::check_file(file);
     let Header::Good(c) = h else {
         return refused(h);
     };

@@ -12,26 +12,26 @@ use native.Mathlib.Omega.{arith}
 use native.Mathlib.Numerals.{add-one}
 use native.Mathlib.Nat.{le-antisymm}
 use lib.Dec.{eqb}
-use Rattle.sharing.specs.Sites.{Site, s1, s2, s3, next, is}
-use Rattle.sharing.specs.Circuit.{Gate, XOR, AND, OR, NOT, dealing}
-use Rattle.sharing.specs.Traffic.{input-adds, gate-adds, output-adds, sum, entry, traffic-table, no-table}
-use Rattle.scope.specs.File.{circuit, site-of, inputs-of, gates-of, outputs-of}
-use Rattle.scope.specs.Answer.{good, refused, number-of, After, place-of}
-use Rattle.scope.specs.Checks.{verdict}
-use Rattle.scope.specs.Calls.{Check, Traffic, TrafficOf, answers, does, Accepts}
-use Rattle.scope.proofs.CallLaws.{does-good, does-refused}
-use Rattle.circuit.specs.declared.Owner.{Owner}
-use Rattle.circuit.specs.declared.Owner.the-variants.{Is as OwnerIs}
-use Rattle.circuit.specs.Mirror.{owner-by}
-use Rattle.circuit.specs.Checked.{IsChecked}
-use Rattle.circuit.proofs.ReaderLaws.{owner-some}
-use Rattle.header.specs.declared.Counts.{Counts}
-use Rattle.header.specs.declared.Header.{Header}
-use Rattle.header.specs.declared.Header.the-variants.{Good, Refused}
-use Rattle.header.specs.Answers.{header-answer}
-use Rattle.header.specs.Opened.{Opened}
-use Rattle.checks.proofs.FrontLaws.{circuit-refuses, circuit-passes}
-use Rattle.entries.specs.Mirror.{table-of, plus, Under, from-input, from-gate, from-output}
+use Rattle.theory_sharing.specs.Sites.{Site, s1, s2, s3, next, is}
+use Rattle.theory_sharing.specs.Circuit.{Gate, XOR, AND, OR, NOT, dealing}
+use Rattle.theory_sharing.specs.Traffic.{input-adds, gate-adds, output-adds, sum, entry, traffic-table, no-table}
+use Rattle.theory_calls.specs.File.{circuit, site-of, inputs-of, gates-of, outputs-of}
+use Rattle.theory_calls.specs.Answer.{good, refused, number-of, After, place-of}
+use Rattle.theory_calls.specs.Checks.{verdict}
+use Rattle.theory_calls.specs.Calls.{Check, Traffic, TrafficOf, answers, does, Accepts}
+use Rattle.theory_calls.proofs.CallLaws.{does-good, does-refused}
+use Rattle.file_parts.specs.declared.Owner.{Owner}
+use Rattle.file_parts.specs.declared.Owner.the-variants.{Is as OwnerIs}
+use Rattle.file_parts.specs.Mirror.{owner-by}
+use Rattle.file_parts.specs.Checked.{IsChecked}
+use Rattle.file_parts.proofs.ReaderLaws.{owner-some}
+use Rattle.file_header.specs.declared.Counts.{Counts}
+use Rattle.file_header.specs.declared.Header.{Header}
+use Rattle.file_header.specs.declared.Header.the-variants.{Good, Refused}
+use Rattle.file_header.specs.Answers.{header-answer}
+use Rattle.file_header.specs.Opened.{Opened}
+use Rattle.check_circuit.proofs.FrontLaws.{circuit-refuses, circuit-passes}
+use Rattle.traffic_entries.specs.Mirror.{table-of, plus, Under, from-input, from-gate, from-output}
 use Rattle.traffic.specs.declared.Refusal.{Refusal}
 use Rattle.traffic.specs.Mirror.{input-steps, gate-steps, output-steps, sums-upto, refusal-by}
 

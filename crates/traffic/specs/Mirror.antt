@@ -3,12 +3,12 @@
 --     sums-upto           the sum of the first k steps
 use mathlib.Core.List.{List}
 use Prim.Native.Nat.{ℕ}
-use Rattle.sharing.specs.Sites.{Site}
-use Rattle.sharing.specs.Traffic.{input-adds, gate-adds, output-adds, sum}
-use Rattle.scope.specs.File.{circuit}
-use Rattle.header.specs.declared.Header.{Header}
-use Rattle.header.specs.declared.Header.the-variants.{Good, Refused}
-use Rattle.entries.specs.Mirror.{table-of}
+use Rattle.theory_sharing.specs.Sites.{Site}
+use Rattle.theory_sharing.specs.Traffic.{input-adds, gate-adds, output-adds, sum}
+use Rattle.theory_calls.specs.File.{circuit}
+use Rattle.file_header.specs.declared.Header.{Header}
+use Rattle.file_header.specs.declared.Header.the-variants.{Good, Refused}
+use Rattle.traffic_entries.specs.Mirror.{table-of}
 use Rattle.traffic.specs.declared.Refusal.{Refusal}
 
 -- what each step of a file adds

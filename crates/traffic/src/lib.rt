@@ -1,16 +1,16 @@
 // Traffic: a table of sent bits, three senders by three receivers, by value, filled step by step and returned.
 ghost use mathlib.Core.Path.{_≡_};
 ghost use Prim.Native.Nat.{_<_, _≤_};
-ghost use Rattle.scope.specs.File.{circuit};
-ghost use Rattle.scope.specs.Answer.{number-of, place-of};
-ghost use Rattle.scope.specs.Calls.{Traffic, does};
-ghost use Rattle.sharing.specs.Traffic.{input-adds, gate-adds, output-adds, traffic-table};
-ghost use Rattle.header.specs.Opened.{Opened};
-ghost use Rattle.entries.specs.Mirror.{table-of, plus, Under};
+ghost use Rattle.theory_calls.specs.File.{circuit};
+ghost use Rattle.theory_calls.specs.Answer.{number-of, place-of};
+ghost use Rattle.theory_calls.specs.Calls.{Traffic, does};
+ghost use Rattle.theory_sharing.specs.Traffic.{input-adds, gate-adds, output-adds, traffic-table};
+ghost use Rattle.file_header.specs.Opened.{Opened};
+ghost use Rattle.traffic_entries.specs.Mirror.{table-of, plus, Under};
 ghost use Rattle.traffic.specs.Mirror.{input-steps, gate-steps, output-steps, sums-upto, refusal-by};
-use circuit::Owner;
-use header::Counts;
-use header::Header;
+use file_header::Counts;
+use file_header::Header;
+use file_parts::Owner;
 
 // A refusal's number and place, 0 and 0 for none.
 struct Refusal {
@@ -24,12 +24,12 @@ fn input_step(file: &[u8], c: Counts, k: usize, t: [[u32; 3]; 3]) -> [[u32; 3]; 
     requires { ⌜ Under t 8192 ⌝ }
     ensures { λ r. ⌜ r ≡ plus t (table-of (input-adds (circuit (now (file .entry)) .owner k))) ⌝ }
 {
-    let a = reader::owner_with(file, c, k);
+    let a = file_reader::owner_with(file, c, k);
     let Owner::Is(o) = a else {
         return t;
     };
-    let m = entries::input_adds(o);
-    entries::added(t, m)
+    let m = traffic_entries::input_adds(o);
+    traffic_entries::added(t, m)
 }
 
 fn gate_step(file: &[u8], c: Counts, k: usize, t: [[u32; 3]; 3]) -> [[u32; 3]; 3]
@@ -37,17 +37,17 @@ fn gate_step(file: &[u8], c: Counts, k: usize, t: [[u32; 3]; 3]) -> [[u32; 3]; 3
     requires { ⌜ Under t 8192 ⌝ }
     ensures { λ r. ⌜ r ≡ plus t (table-of (gate-adds (circuit (now (file .entry)) .gate k))) ⌝ }
 {
-    let d = tally::gate_deals(file, c, k);
-    let m = entries::gate_adds(d);
-    entries::added(t, m)
+    let d = file_counts::gate_deals(file, c, k);
+    let m = traffic_entries::gate_adds(d);
+    traffic_entries::added(t, m)
 }
 
 fn output_step(t: [[u32; 3]; 3]) -> [[u32; 3]; 3]
     requires { ⌜ Under t 8192 ⌝ }
     ensures { λ r. ⌜ r ≡ plus t (table-of output-adds) ⌝ }
 {
-    let m = entries::output_adds();
-    entries::added(t, m)
+    let m = traffic_entries::output_adds();
+    traffic_entries::added(t, m)
 }
 
 // All inputs, all gates, all outputs.
@@ -103,8 +103,8 @@ pub fn whole_table(file: &[u8], c: Counts) -> [[u32; 3]; 3]
     let i = inputs_table(file, c);
     let g = gates_table(file, c);
     let o = outputs_table(c.outputs);
-    let ig = entries::added(i, g);
-    entries::added(ig, o)
+    let ig = traffic_entries::added(i, g);
+    traffic_entries::added(ig, o)
 }
 
 // The two numbers of a header's answer: 0 and 0 where it is good.
@@ -127,7 +127,7 @@ pub fn traffic_of(file: &[u8], number: &mut usize, place: &mut usize) -> [[u32; 
     ensures { λ _. ⌜ now (number .exit) ≡ number-of (does (Traffic (now (file .entry))) .answer) ⌝ }
     ensures { λ _. ⌜ now (place .exit) ≡ place-of (does (Traffic (now (file .entry))) .answer) ⌝ }
 {
-    let h = checks::check_file(file);
+    let h = check_circuit::check_file(file);
     let r = refusal_of(h);
     *number = r.number;
     *place = r.place;

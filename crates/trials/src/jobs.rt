@@ -1,7 +1,7 @@
 // The call that takes a job.
 use listing::Listed;
-use stream::input;
-use stream::print;
+use trials_stream::input;
+use trials_stream::print;
 
 // Reads the job, makes the call and answers whether to go on.
 pub fn listing() -> bool {

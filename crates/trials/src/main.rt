@@ -4,12 +4,12 @@ mod retapes;
 mod several;
 mod views;
 
-use asks::readers;
-use asks::single;
-use asks::values;
-use stream::input;
-use stream::input::Read;
-use stream::print;
+use trials_calls::readers;
+use trials_calls::single;
+use trials_calls::values;
+use trials_stream::input;
+use trials_stream::input::Read;
+use trials_stream::print;
 
 // Whether there is a call of this number.
 fn made(which: usize) -> bool {

@@ -1,8 +1,8 @@
 // The view. Each slice has a room of its own.
-use checks::Done;
-use stream::input;
-use stream::print;
-use stream::rooms;
+use check_circuit::Done;
+use trials_stream::input;
+use trials_stream::print;
+use trials_stream::rooms;
 
 // Reads what the call is given, then what it is lent, makes it and answers whether to go on.
 pub fn view(site: usize) -> bool {

@@ -9,23 +9,23 @@ use native.Mathlib.Omega.{arith}
 use native.Mathlib.Nat.{le-of-eq}
 use lib.ListN.{length, take, drop, length-append, length-drop}
 use lib.Seq.{length-take-le}
-use Rattle.sharing.specs.Ops.{bits}
-use Rattle.sharing.specs.Sites.{Site, of}
-use Rattle.sharing.specs.Circuit.{Circuit, no-errors, all-owned}
-use Rattle.sharing.specs.Run.{after}
-use Rattle.sharing.specs.Tapes.{cut, read}
-use Rattle.sharing.specs.Store.{fill, store}
-use Rattle.sharing.specs.View.{own-ins, view-from}
-use Rattle.sharing.proofs.OrderLaws.{got-length}
-use Rattle.sharing.proofs.StoreLaws.{fill-all, fill-length}
-use Rattle.sharing.proofs.TapeLaws.{cut-sized}
-use Rattle.sharing.proofs.ViewLaws.{own-many, totals-many}
-use Rattle.scope.specs.File.{circuit}
-use Rattle.scope.specs.Calls.{at-wire}
-use Rattle.header.specs.declared.Counts.{Counts}
-use Rattle.engine.specs.declared.Pos.{Pos}
-use Rattle.shown.specs.Mirror.{all-seen, totals-seen, opened-all}
-use Rattle.shown.proofs.DeliveredLaws.{opened-are}
+use Rattle.theory_sharing.specs.Ops.{bits}
+use Rattle.theory_sharing.specs.Sites.{Site, of}
+use Rattle.theory_sharing.specs.Circuit.{Circuit, no-errors, all-owned}
+use Rattle.theory_sharing.specs.Run.{after}
+use Rattle.theory_sharing.specs.Tapes.{cut, read}
+use Rattle.theory_sharing.specs.Store.{fill, store}
+use Rattle.theory_sharing.specs.View.{own-ins, view-from}
+use Rattle.theory_sharing.proofs.OrderLaws.{got-length}
+use Rattle.theory_sharing.proofs.StoreLaws.{fill-all, fill-length}
+use Rattle.theory_sharing.proofs.TapeLaws.{cut-sized}
+use Rattle.theory_sharing.proofs.ViewLaws.{own-many, totals-many}
+use Rattle.theory_calls.specs.File.{circuit}
+use Rattle.theory_calls.specs.Calls.{at-wire}
+use Rattle.file_header.specs.declared.Counts.{Counts}
+use Rattle.run_passes.specs.declared.Pos.{Pos}
+use Rattle.view_parts.specs.Mirror.{all-seen, totals-seen, opened-all}
+use Rattle.view_parts.proofs.DeliveredLaws.{opened-are}
 use Rattle.view.specs.Mirror.{Laid}
 use Rattle.view.proofs.ViewLaws.{fill-part, by-base, view-whole}
 

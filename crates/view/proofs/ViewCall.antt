@@ -7,25 +7,25 @@ use mathlib.Core.List.{List, [], _∷_}
 use native.Mathlib.Omega.{arith}
 use Prim.Native.Nat.{ℕ, _+_, _*_}
 use lib.ListN.{length}
-use Rattle.sharing.specs.Ops.{bits}
-use Rattle.sharing.specs.Circuit.{no-errors}
-use Rattle.sharing.specs.Run.{after}
-use Rattle.sharing.specs.Tapes.{read}
-use Rattle.sharing.specs.Store.{store}
-use Rattle.sharing.specs.View.{view-from}
-use Rattle.scope.specs.File.{site-of, circuit}
-use Rattle.scope.specs.Answer.{good}
-use Rattle.scope.specs.Checks.{accepted, verdict}
-use Rattle.scope.specs.Calls.{Call, View, ViewOf, at-wire, does, Accepts}
-use Rattle.scope.proofs.Refusals.{Without}
-use Rattle.scope.proofs.CallLaws.{verdict-accepts, accepts-does}
-use Rattle.scope.proofs.Accepted.{ViewOk, view-ok}
-use Rattle.header.specs.declared.Counts.{Counts}
-use Rattle.circuit.specs.Checked.{Checked}
-use Rattle.slices.proofs.ChainLaws.{nothing}
-use Rattle.checks.specs.declared.Done.the-variants.{Good}
-use Rattle.checks.specs.Answers.{done-answer, done-after}
-use Rattle.checks.proofs.FrontLaws.{Front, given-passed}
+use Rattle.theory_sharing.specs.Ops.{bits}
+use Rattle.theory_sharing.specs.Circuit.{no-errors}
+use Rattle.theory_sharing.specs.Run.{after}
+use Rattle.theory_sharing.specs.Tapes.{read}
+use Rattle.theory_sharing.specs.Store.{store}
+use Rattle.theory_sharing.specs.View.{view-from}
+use Rattle.theory_calls.specs.File.{site-of, circuit}
+use Rattle.theory_calls.specs.Answer.{good}
+use Rattle.theory_calls.specs.Checks.{accepted, verdict}
+use Rattle.theory_calls.specs.Calls.{Call, View, ViewOf, at-wire, does, Accepts}
+use Rattle.theory_calls.proofs.Refusals.{Without}
+use Rattle.theory_calls.proofs.CallLaws.{verdict-accepts, accepts-does}
+use Rattle.theory_calls.proofs.Accepted.{ViewOk, view-ok}
+use Rattle.file_header.specs.declared.Counts.{Counts}
+use Rattle.file_parts.specs.Checked.{Checked}
+use Rattle.check_slices.proofs.ChainLaws.{nothing}
+use Rattle.check_circuit.specs.declared.Done.the-variants.{Good}
+use Rattle.check_circuit.specs.Answers.{done-answer, done-after}
+use Rattle.check_circuit.proofs.FrontLaws.{Front, given-passed}
 use Rattle.view.specs.Mirror.{view-checks, Ready}
 
 module _ (f x t : List ℕ) (s : ℕ) (v st : List ℕ) where

@@ -11,26 +11,26 @@ use Prim.Native.Nat.{ℕ, _+_, _*_, _-_, _≤_}
 use native.Mathlib.Omega.{arith}
 use lib.ListN.{length, take, drop, length-append, length-drop}
 use lib.Seq.{take-at, drop-at, drop-drop, take-all}
-use Rattle.sharing.specs.Ops.{bits}
-use Rattle.sharing.specs.Sites.{Site, s1, s2, s3, of}
-use Rattle.sharing.specs.Circuit.{Circuit, ands, all-ands, owned, all-owned}
-use Rattle.sharing.specs.Tapes.{tape-length, tapes-sum, cut, read}
-use Rattle.sharing.specs.Store.{fill}
-use Rattle.sharing.specs.View.{own-ins, view-from}
-use Rattle.sharing.proofs.BitLaws.{bit-group}
-use Rattle.sharing.proofs.Seen.{seen-view}
-use Rattle.sharing.proofs.StoreLaws.{fill-all}
-use Rattle.sharing.proofs.TapeLaws.{tapes-length, read-tape}
-use Rattle.sharing.proofs.ViewLaws.{view-is}
-use Rattle.scope.specs.File.{site-of, circuit}
-use Rattle.scope.specs.Calls.{at-wire, view-wants}
-use Rattle.scope.proofs.RunCall.{bit-draws}
-use Rattle.header.specs.declared.Counts.{Counts}
-use Rattle.header.specs.Opened.{Opened}
-use Rattle.engine.specs.declared.Pos.{Pos}
-use Rattle.link.specs.Loops.{base, in-places, in-place, site-place}
-use Rattle.given.proofs.GivenLaws.{ands-are}
-use Rattle.shown.specs.Mirror.{all-seen, totals-seen}
+use Rattle.theory_sharing.specs.Ops.{bits}
+use Rattle.theory_sharing.specs.Sites.{Site, s1, s2, s3, of}
+use Rattle.theory_sharing.specs.Circuit.{Circuit, ands, all-ands, owned, all-owned}
+use Rattle.theory_sharing.specs.Tapes.{tape-length, tapes-sum, cut, read}
+use Rattle.theory_sharing.specs.Store.{fill}
+use Rattle.theory_sharing.specs.View.{own-ins, view-from}
+use Rattle.theory_sharing.proofs.BitLaws.{bit-group}
+use Rattle.theory_sharing.proofs.Seen.{seen-view}
+use Rattle.theory_sharing.proofs.StoreLaws.{fill-all}
+use Rattle.theory_sharing.proofs.TapeLaws.{tapes-length, read-tape}
+use Rattle.theory_sharing.proofs.ViewLaws.{view-is}
+use Rattle.theory_calls.specs.File.{site-of, circuit}
+use Rattle.theory_calls.specs.Calls.{at-wire, view-wants}
+use Rattle.theory_calls.proofs.RunCall.{bit-draws}
+use Rattle.file_header.specs.declared.Counts.{Counts}
+use Rattle.file_header.specs.Opened.{Opened}
+use Rattle.run_passes.specs.declared.Pos.{Pos}
+use Rattle.run_laws.specs.Loops.{base, in-places, in-place, site-place}
+use Rattle.check_given.proofs.GivenLaws.{ands-are}
+use Rattle.view_parts.specs.Mirror.{all-seen, totals-seen}
 use Rattle.view.specs.Mirror.{Ready, Laid}
 
 -- "view 0 view, 1 store", by what is counted

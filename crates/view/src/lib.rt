@@ -3,58 +3,54 @@ ghost use mathlib.Core.Path.{_≡_};
 ghost use mathlib.Core.List.{[], _∷_};
 ghost use Prim.Native.Nat.{_+_, _*_, _<_, _≤_};
 ghost use lib.ListN.{length};
-ghost use Rattle.sharing.specs.Ops.{bits};
-ghost use Rattle.sharing.specs.Circuit.{no-errors, ands};
-ghost use Rattle.sharing.specs.Run.{after};
-ghost use Rattle.sharing.specs.Tapes.{read};
-ghost use Rattle.sharing.specs.Store.{store as storing};
-ghost use Rattle.sharing.specs.View.{view-from};
-ghost use Rattle.scope.specs.File.{circuit, site-of};
-ghost use Rattle.scope.specs.Checks.{verdict};
-ghost use Rattle.scope.specs.Calls.{at-wire, View, does};
-ghost use Rattle.header.specs.Opened.{Opened};
-ghost use Rattle.circuit.specs.Checked.{Checked};
-ghost use Rattle.link.specs.Loops.{site-place};
-ghost use Rattle.checks.specs.Answers.{done-after};
-ghost use Rattle.given.specs.Mirror.{found};
+ghost use Rattle.theory_sharing.specs.Circuit.{ands};
+ghost use Rattle.theory_calls.specs.File.{circuit, site-of};
+ghost use Rattle.theory_calls.specs.Checks.{verdict};
+ghost use Rattle.theory_calls.specs.Calls.{View, does};
+ghost use Rattle.theory_calls.specs.AtBits.{clean-store, view-on};
+ghost use Rattle.file_header.specs.Opened.{Opened};
+ghost use Rattle.file_parts.specs.Checked.{Checked};
+ghost use Rattle.run_laws.specs.Loops.{site-place};
+ghost use Rattle.check_circuit.specs.Answers.{done-after};
+ghost use Rattle.check_given.specs.Mirror.{found};
 ghost use Rattle.view.specs.Mirror.{view-checks, Ready, Laid};
-use checks::Done;
-use engine::Pos;
-use given::Fault;
-use header::Counts;
-use header::Header;
+use check_circuit::Done;
+use check_given::Fault;
+use file_header::Counts;
+use file_header::Header;
+use run_passes::Pos;
 
 // 7, 8, 11, then 10 on an opened circuit of a AND and OR gates: slices, site, then the lengths of the two buffers, of which the view's hangs on the site.
 fn given_fault(
     file: &[u8],
     c: Counts,
     a: usize,
-    xs: &[u8],
+    inputs: &[u8],
     tapes: &[u8],
     site: usize,
     view: usize,
     store: usize,
 ) -> Fault
     requires { ⌜ Opened (now file) c × (a ≡ ands (circuit (now file) .gate) (c .gates)) × (a ≤ c .gates) ⌝ }
-    ensures { λ r. ⌜ found r ≡ verdict (view-checks (now (file .entry)) (now (xs .entry)) (now (tapes .entry)) site view store) ⌝ }
+    ensures { λ r. ⌜ found r ≡ verdict (view-checks (now (file .entry)) (now (inputs .entry)) (now (tapes .entry)) site view store) ⌝ }
 {
-    let f = given::slices_fault(file, c, a, xs, tapes);
+    let f = check_given::slices_fault(file, c, a, inputs, tapes);
     if f.number != 0 {
         return f;
     }
-    if !faults::site_good(site) {
+    if !check_tests::site_good(site) {
         return Fault {
             number: 11,
             place: 0,
         };
     }
-    let own = tally::count_owned(file, c, site);
+    let own = file_counts::count_owned(file, c, site);
     let sizes = [view, store];
     let wants = [
         2 * c.inputs + own + 6 * a + 3 * c.outputs,
         6 * (c.inputs + c.gates),
     ];
-    let b = slices::first_size(&sizes, &wants);
+    let b = check_slices::first_size(&sizes, &wants);
     if b < 2 {
         return Fault {
             number: 10,
@@ -85,7 +81,7 @@ fn tape_place(pos: Pos, site: usize) -> usize
 fn fill_view(
     file: &[u8],
     c: Counts,
-    xs: &[u8],
+    inputs: &[u8],
     tapes: &[u8],
     site: usize,
     view: &mut [u8],
@@ -99,15 +95,15 @@ fn fill_view(
 )
     requires { ⌜ (own ≤ d) × (d ≤ e) × (e ≤ length (now view)) ⌝ }
     requires { ⌜ (t ≤ u) × (u ≤ length (now tapes)) ⌝ }
-    requires { ⌜ Laid (now file) c (site-of site) (length (now xs)) (length (now tapes)) (length (now view)) (length (now store)) pos own d e t u ⌝ }
-    ensures { λ _. ⌜ now (view .exit) ≡ view-from bits (site-of site) (circuit (now (file .entry))) (at-wire (now (xs .entry))) (now (tapes .entry)) ⌝ }
-    ensures { λ _. ⌜ now (store .exit) ≡ storing (after bits (circuit (now (file .entry))) (at-wire (now (xs .entry))) (read (circuit (now (file .entry))) (now (tapes .entry))) no-errors (circuit (now (file .entry)) .gates)) ⌝ }
+    requires { ⌜ Laid (now file) c (site-of site) (length (now inputs)) (length (now tapes)) (length (now view)) (length (now store)) pos own d e t u ⌝ }
+    ensures { λ _. ⌜ now (view .exit) ≡ view-on (now (file .entry)) (now (inputs .entry)) (now (tapes .entry)) site ⌝ }
+    ensures { λ _. ⌜ now (store .exit) ≡ clean-store (now (file .entry)) (now (inputs .entry)) (now (tapes .entry)) ⌝ }
 {
     let n = view.len();
-    shown::own_inputs(file, c, xs, &mut view[0..own], site);
-    numbers::copy(&tapes[t..u], &mut view[own..d]);
-    shown::delivered(file, c, xs, tapes, store, &mut view[d..e], site, pos);
-    shown::opened_bits(file, c, store, &mut view[e..n], site);
+    view_parts::own_inputs(file, c, inputs, &mut view[0..own], site);
+    file_numbers::copy(&tapes[t..u], &mut view[own..d]);
+    view_parts::delivered(file, c, inputs, tapes, store, &mut view[d..e], site, pos);
+    view_parts::opened_bits(file, c, store, &mut view[e..n], site);
 }
 
 // Behind all checks: where the view's parts begin, then the parts. What is behind 1 to 6 asks it.
@@ -115,19 +111,19 @@ pub fn view_checked(
     file: &[u8],
     c: Counts,
     a: usize,
-    xs: &[u8],
+    inputs: &[u8],
     tapes: &[u8],
     site: usize,
     view: &mut [u8],
     store: &mut [u8],
 )
-    requires { ⌜ Ready (now file) c site (length (now xs)) (length (now tapes)) (length (now view)) (length (now store)) ⌝ }
+    requires { ⌜ Ready (now file) c site (length (now inputs)) (length (now tapes)) (length (now view)) (length (now store)) ⌝ }
     requires { ⌜ (a ≡ ands (circuit (now file) .gate) (c .gates)) × (a ≤ c .gates) ⌝ }
-    ensures { λ _. ⌜ now (view .exit) ≡ view-from bits (site-of site) (circuit (now (file .entry))) (at-wire (now (xs .entry))) (now (tapes .entry)) ⌝ }
-    ensures { λ _. ⌜ now (store .exit) ≡ storing (after bits (circuit (now (file .entry))) (at-wire (now (xs .entry))) (read (circuit (now (file .entry))) (now (tapes .entry))) no-errors (circuit (now (file .entry)) .gates)) ⌝ }
+    ensures { λ _. ⌜ now (view .exit) ≡ view-on (now (file .entry)) (now (inputs .entry)) (now (tapes .entry)) site ⌝ }
+    ensures { λ _. ⌜ now (store .exit) ≡ clean-store (now (file .entry)) (now (inputs .entry)) (now (tapes .entry)) ⌝ }
 {
-    let own = tally::count_owned(file, c, site);
-    let pos = start::begin(file, c, a);
+    let own = file_counts::count_owned(file, c, site);
+    let pos = run_start::begin(file, c, a);
     let t = tape_place(pos, site);
     let m = 2 * (own + a);
     let d = own + m;
@@ -135,7 +131,7 @@ pub fn view_checked(
     fill_view(
         file,
         c,
-        xs,
+        inputs,
         tapes,
         site,
         view,
@@ -163,7 +159,7 @@ pub fn view_opened(
     requires { ⌜ Checked (now file) c ⌝ }
     ensures { λ r. ⌜ done-after r (now (view .exit) ∷ now (store .exit) ∷ []) ≡ does (View (now (file .entry)) (now (inputs .entry)) (now (tapes .entry)) site (now (view .entry)) (now (store .entry))) ⌝ }
 {
-    let a = tally::count_ands(file, c);
+    let a = file_counts::count_ands(file, c);
     let f = given_fault(file, c, a, inputs, tapes, site, view.len(), store.len());
     if f.number != 0 {
         return Done::Refused(f.number, f.place);
@@ -184,9 +180,9 @@ pub fn view_of(
 ) -> Done
     ensures { λ r. ⌜ done-after r (now (view .exit) ∷ now (store .exit) ∷ []) ≡ does (View (now (file .entry)) (now (inputs .entry)) (now (tapes .entry)) site (now (view .entry)) (now (store .entry))) ⌝ }
 {
-    let h = checks::check_file(file);
+    let h = check_circuit::check_file(file);
     let Header::Good(c) = h else {
-        return checks::refused(h);
+        return check_circuit::refused(h);
     };
     view_opened(file, c, inputs, tapes, site, view, store)
 }

@@ -1,6 +1,6 @@
 use borrow.Author.Needs.{needs}
 use mathlib.Core.Path.{_∙_}
-use Rattle.checks.proofs.FrontLaws.{checked-from}
+use Rattle.check_circuit.proofs.FrontLaws.{checked-from}
 use Rattle.listing.proofs.PartLaws.{circuit-told}
 use Rattle.listing.proofs.list.Statement.{statement}
 use Rattle.listing.proofs.list.Tie as tie
@@ -8,7 +8,7 @@ use Rattle.listing.proofs.list.Tie as tie
 returns : tie.Need-returns
 returns c =
     let a = c .before .before .before .before .before .before .before .before .before .before .before .args in let r = c .before .before .refuse-header .ensures in
-    (r .0 ∙ circuit-told (a .file .now) (a .xs .now) (a .tapes .now) _ (c .before .before .before .before .before .before .check-file .ensures .0) _ _ (c .before .before .before .before .enum-told .given .1), r .1)
+    (r .0 ∙ circuit-told (a .file .now) (a .inputs .now) (a .tapes .now) _ (c .before .before .before .before .before .before .check-file .ensures .0) _ _ (c .before .before .before .before .enum-told .given .1), r .1)
 
 list-opened-requires : tie.Need-list-opened-requires
 list-opened-requires c κs = (checked-from _ _ _ (c .before .before .h .given .1) (c .before .before .before .before .check-file .ensures .1), c .before .before .before .before .before .before .before .before .before .pre)

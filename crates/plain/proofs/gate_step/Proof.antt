@@ -1,6 +1,6 @@
 use borrow.Author.Needs.{needs}
 use native.Mathlib.Omega.{arith}
-use Rattle.circuit.proofs.ReaderLaws.{gate-none}
+use Rattle.file_parts.proofs.ReaderLaws.{gate-none}
 use Rattle.plain.proofs.ValueLaws.{read-gate, read-lower}
 use Rattle.plain.proofs.gate_step.Statement.{statement}
 use Rattle.plain.proofs.gate_step.Tie as tie

@@ -2,8 +2,8 @@ use borrow.Author.Needs.{needs}
 use mathlib.Core.Path.{_≡_, refl, _∙_}
 use Prim.Native.Nat.{_-_, _≤_}
 use lib.ListN.{length}
-use Rattle.circuit.specs.Loop.{up-to}
-use Rattle.circuit.proofs.LoopLaws.{none-yet, turn, at-end}
+use Rattle.file_parts.specs.Loop.{up-to}
+use Rattle.file_parts.proofs.LoopLaws.{none-yet, turn, at-end}
 use Rattle.plain.specs.Mirror.{gates-on}
 use Rattle.plain.proofs.gates_pass.Statement.{statement}
 use Rattle.plain.proofs.gates_pass.Tie as tie

@@ -2,17 +2,17 @@ use borrow.Author.Needs.{needs}
 use mathlib.Core.Path.{_≡_, refl, _∙_}
 use Prim.Native.Nat.{_-_, _≤_}
 use lib.ListN.{length}
-use Rattle.circuit.specs.Loop.{up-to}
-use Rattle.circuit.proofs.LoopLaws.{none-yet, turn, at-end}
+use Rattle.file_parts.specs.Loop.{up-to}
+use Rattle.file_parts.proofs.LoopLaws.{none-yet, turn, at-end}
 use Rattle.plain.specs.Mirror.{inputs-on}
 use Rattle.plain.proofs.inputs_pass.Statement.{statement}
 use Rattle.plain.proofs.inputs_pass.Tie as tie
 
 abbrev Inv-loop : tie.InvT-loop
-Inv-loop xs values₀ n k₀ values k = (k ≤ n) × (values ≡ inputs-on xs values₀ k) × (length values ≡ length values₀)
+Inv-loop inputs values₀ n k₀ values k = (k ≤ n) × (values ≡ inputs-on inputs values₀ k) × (length values ≡ length values₀)
 
 abbrev μ-loop : tie.MeasureT-loop
-μ-loop xs values₀ n k₀ values k = n - k
+μ-loop inputs values₀ n k₀ values k = n - k
 
 loop-holds : tie.Need-loop-holds Inv-loop μ-loop
 loop-holds c = (search needs, none-yet _ _, refl)

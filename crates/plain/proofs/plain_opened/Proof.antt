@@ -1,6 +1,6 @@
 use borrow.Author.Needs.{needs}
 use native.Mathlib.Omega.{arith}
-use Rattle.slices.proofs.BitsLaws.{bits-long}
+use Rattle.check_slices.proofs.BitsLaws.{bits-long}
 use Rattle.plain.proofs.PlainCall.{inputs-stop, buffer-stop, accepted-plain}
 use Rattle.plain.proofs.plain_opened.Statement.{statement}
 use Rattle.plain.proofs.plain_opened.Tie as tie

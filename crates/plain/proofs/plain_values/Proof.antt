@@ -1,5 +1,5 @@
 use borrow.Author.Needs.{needs}
-use Rattle.checks.proofs.FrontLaws.{checked-from, done-circuit}
+use Rattle.check_circuit.proofs.FrontLaws.{checked-from, done-circuit}
 use Rattle.plain.proofs.PlainCall.{front}
 use Rattle.plain.proofs.plain_values.Statement.{statement}
 use Rattle.plain.proofs.plain_values.Tie as tie

@@ -1,5 +1,5 @@
 use borrow.Author.Needs.{needs}
-use Rattle.checks.proofs.FrontLaws.{checked-from, done-circuit}
+use Rattle.check_circuit.proofs.FrontLaws.{checked-from, done-circuit}
 use Rattle.retape.proofs.RetapeCall.{front}
 use Rattle.retape.proofs.retape.Statement.{statement}
 use Rattle.retape.proofs.retape.Tie as tie

@@ -1,6 +1,6 @@
 use borrow.Author.Needs.{needs}
-use Rattle.given.proofs.GivenLaws.{found-no, found-yes}
-use Rattle.checks.proofs.FrontLaws.{done-given}
+use Rattle.check_given.proofs.GivenLaws.{found-no, found-yes}
+use Rattle.check_circuit.proofs.FrontLaws.{done-given}
 use Rattle.retape.proofs.RetapeCall.{front}
 use Rattle.retape.proofs.retape_opened.Statement.{statement}
 use Rattle.retape.proofs.retape_opened.Tie as tie

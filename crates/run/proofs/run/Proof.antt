@@ -1,5 +1,5 @@
 use borrow.Author.Needs.{needs}
-use Rattle.checks.proofs.FrontLaws.{checked-from}
+use Rattle.check_circuit.proofs.FrontLaws.{checked-from}
 use Rattle.run.proofs.RunCall.{run-circuit}
 use Rattle.run.proofs.run.Statement.{statement}
 use Rattle.run.proofs.run.Tie as tie

@@ -11,7 +11,7 @@ judge-requires c κs = let d = c .before .before .before .before .before .before
 
 returns : tie.Need-returns
 returns c = let a = c .before .before .before .before .before .before .before .before .before .before .before .before .before .before .before .before .before .before .before .before .before .before .before .args in let e = c .before .before .before .before .before .before .before .before .before .before .before .before .shares .ensures in
-    stopped _ (a .xs .now) (a .tapes .now) _ _ _ _ _ _ _ _ _ _ _ _ (c .before .before .before .before .before .before .before .before .before .before .before .before .before .before .before .before .before .before .before .before .before .before .before .pre .0) refl refl _ (e .0) (e .1 .0) (e .1 .1) _ _ _ (c .before .before .before .before .before .judge .ensures) (c .if1 .taken)
+    stopped _ (a .inputs .now) (a .tapes .now) _ _ _ _ _ _ _ _ _ _ _ _ (c .before .before .before .before .before .before .before .before .before .before .before .before .before .before .before .before .before .before .before .before .before .before .before .pre .0) refl refl _ (e .0) (e .1 .0) (e .1 .1) _ _ _ (c .before .before .before .before .before .judge .ensures) (c .if1 .taken)
 
 hand-over-requires : tie.Need-hand-over-requires
 hand-over-requires c κs = let d = c .before .before .before .before .before .before .before .before .before .before .before .before .before .before .before .before .before .before .before .before .before .before .before .before .before .before .pre .0 in let s = c .before .before .before .before .before .before .before .before .before .before .before .before .before .before .before .shares in
@@ -20,7 +20,7 @@ hand-over-requires c κs = let d = c .before .before .before .before .before .be
 
 returns-2 : tie.Need-returns-2
 returns-2 c = let a = c .before .before .before .before .before .before .before .before .before .before .before .before .before .before .before .before .before .before .before .before .before .before .before .before .before .before .before .before .before .args in let e = c .before .before .before .before .before .before .before .before .before .before .before .before .before .before .before .before .before .before .shares .ensures in
-    through _ (a .xs .now) (a .tapes .now) _ _ _ _ _ _ _ _ _ _ _ _ (c .before .before .before .before .before .before .before .before .before .before .before .before .before .before .before .before .before .before .before .before .before .before .before .before .before .before .before .before .before .pre .0) refl refl _ (e .0) (e .1 .0) (e .1 .1) _ _ _ _ (c .before .before .before .before .before .before .before .before .before .before .before .judge .ensures) (c .before .before .before .before .before .before .if1 .left) (c .before .before .hand-over .ensures)
+    through _ (a .inputs .now) (a .tapes .now) _ _ _ _ _ _ _ _ _ _ _ _ (c .before .before .before .before .before .before .before .before .before .before .before .before .before .before .before .before .before .before .before .before .before .before .before .before .before .before .before .before .before .pre .0) refl refl _ (e .0) (e .1 .0) (e .1 .1) _ _ _ _ (c .before .before .before .before .before .before .before .before .before .before .before .judge .ensures) (c .before .before .before .before .before .before .if1 .left) (c .before .before .hand-over .ensures)
 
 pub run-checked-spec : {M : Type 1} → statement M
 run-checked-spec =

@@ -1,5 +1,5 @@
 use borrow.Author.Needs.{needs}
-use Rattle.given.proofs.GivenLaws.{found-no, found-yes}
+use Rattle.check_given.proofs.GivenLaws.{found-no, found-yes}
 use Rattle.run.proofs.RunCall.{run-given-no, ready, accepted-run}
 use Rattle.run.proofs.run_opened.Statement.{statement}
 use Rattle.run.proofs.run_opened.Tie as tie

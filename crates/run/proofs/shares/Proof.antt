@@ -1,6 +1,6 @@
 use borrow.Author.Needs.{needs}
 use mathlib.Core.Path.{_∙_}
-use Rattle.engine.specs.Mirror.{st}
+use Rattle.run_passes.specs.Mirror.{st}
 use Rattle.run.proofs.RunLaws.{inputs-ready, gates-ready, shared}
 use Rattle.run.proofs.shares.Statement.{statement}
 use Rattle.run.proofs.shares.Tie as tie
@@ -10,10 +10,10 @@ inputs-pass-requires c κs = let p = c .before .before .before .before .before .
 
 gates-pass-requires : tie.Need-gates-pass-requires
 gates-pass-requires c κs = let a = c .before .before .before .before .before .before .before .before .before .before .before .before .before .before .before .args in let p = c .before .before .before .before .before .before .before .before .before .before .before .before .before .before .before .pre in let i = c .before .before .before .before .before .before .inputs-pass in
-    (p .0 .checked, (i .kept .1 .1 .1 .1 .1 .0 ∙ p .0 .ls, gates-ready _ _ (a .xs .now) _ _ (a .store .now) (a .room .now) _ _ _ (st _ _ _) (p .0) (p .1) (i .kept .1 .1 .1 .1 .1 .1 .0) (i .ensures)))
+    (p .0 .checked, (i .kept .1 .1 .1 .1 .1 .0 ∙ p .0 .ls, gates-ready _ _ (a .inputs .now) _ _ (a .store .now) (a .transcript .now) _ _ _ (st _ _ _) (p .0) (p .1) (i .kept .1 .1 .1 .1 .1 .1 .0) (i .ensures)))
 
 returns : tie.Need-returns
-returns c = let a = c .before .before .before .before .before .before .before .before .before .before .before .before .before .before .before .before .before .before .before .before .args in let p = c .before .before .before .before .before .before .before .before .before .before .before .before .before .before .before .before .before .before .before .before .pre in let q = shared _ _ (a .xs .now) _ _ (a .store .now) _ _ _ (st _ _ _) (st _ _ _) (p .0) (p .1) (c .before .before .before .before .before .before .before .before .before .before .before .inputs-pass .ensures) (c .before .before .before .before .gates-pass .ensures) in
+returns c = let a = c .before .before .before .before .before .before .before .before .before .before .before .before .before .before .before .before .before .before .before .before .args in let p = c .before .before .before .before .before .before .before .before .before .before .before .before .before .before .before .before .before .before .before .before .pre in let q = shared _ _ (a .inputs .now) _ _ (a .store .now) _ _ _ (st _ _ _) (st _ _ _) (p .0) (p .1) (c .before .before .before .before .before .before .before .before .before .before .before .inputs-pass .ensures) (c .before .before .before .before .gates-pass .ensures) in
     (q .0, (q .1, q .2))
 
 pub shares-spec : {M : Type 1} → statement M

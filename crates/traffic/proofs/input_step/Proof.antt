@@ -1,5 +1,5 @@
 use borrow.Author.Needs.{needs}
-use Rattle.circuit.proofs.ReaderLaws.{owner-none}
+use Rattle.file_parts.proofs.ReaderLaws.{owner-none}
 use Rattle.traffic.proofs.TrafficCall.{under-room, under-input, input-sum}
 use Rattle.traffic.proofs.input_step.Statement.{statement}
 use Rattle.traffic.proofs.input_step.Tie as tie

@@ -1,5 +1,5 @@
 use borrow.Author.Needs.{needs}
-use Rattle.checks.proofs.FrontLaws.{checked-from}
+use Rattle.check_circuit.proofs.FrontLaws.{checked-from}
 use Rattle.traffic.proofs.TrafficCall.{numbers-are, zeros-are, table-is}
 use Rattle.traffic.proofs.traffic_of.Statement.{statement}
 use Rattle.traffic.proofs.traffic_of.Tie as tie

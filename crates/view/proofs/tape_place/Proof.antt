@@ -1,5 +1,5 @@
-use Rattle.link.specs.Loops.{site-place}
-use Rattle.circuit.proofs.SiteLaws.{at-one, at-two, at-three}
+use Rattle.run_laws.specs.Loops.{site-place}
+use Rattle.file_parts.proofs.SiteLaws.{at-one, at-two, at-three}
 use Rattle.view.proofs.tape_place.Statement.{statement}
 use Rattle.view.proofs.tape_place.Tie as tie
 

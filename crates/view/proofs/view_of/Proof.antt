@@ -1,5 +1,5 @@
 use borrow.Author.Needs.{needs}
-use Rattle.checks.proofs.FrontLaws.{checked-from, done-circuit}
+use Rattle.check_circuit.proofs.FrontLaws.{checked-from, done-circuit}
 use Rattle.view.proofs.ViewCall.{front}
 use Rattle.view.proofs.view_of.Statement.{statement}
 use Rattle.view.proofs.view_of.Tie as tie

@@ -1,6 +1,6 @@
 use borrow.Author.Needs.{needs}
-use Rattle.given.proofs.GivenLaws.{found-no, found-yes}
-use Rattle.checks.proofs.FrontLaws.{done-given}
+use Rattle.check_given.proofs.GivenLaws.{found-no, found-yes}
+use Rattle.check_circuit.proofs.FrontLaws.{done-given}
 use Rattle.view.proofs.ViewCall.{front, ready, accepted-view}
 use Rattle.view.proofs.view_opened.Statement.{statement}
 use Rattle.view.proofs.view_opened.Tie as tie

@@ -1,0 +1,93 @@
+// What the calls answer, as the structs that C gets: their enums, the lengths for a circuit, the listing's text.
+ghost use mathlib.Core.Path.{_≡_};
+ghost use Prim.Native.Nat.{_≤_};
+ghost use lib.ListN.{length, take};
+ghost use Rattle.theory_sharing.specs.Store.{fill};
+ghost use Rattle.theory_calls.specs.File.{circuit};
+ghost use Rattle.file_header.specs.Opened.{Opened};
+ghost use Rattle.check_circuit.specs.Answers.{done-answer};
+ghost use Rattle.run.specs.Answers.{run-answer};
+ghost use Rattle.listing.specs.Answers.{listed-answer, text-length};
+ghost use Rattle.door_answers.specs.Told.{told, text-told, unfit};
+ghost use Rattle.door_answers.specs.Sizes.{sizes-of};
+use check_circuit::Done;
+use door_answers::Answer;
+use door_answers::ListingAnswer;
+use door_answers::SizesAnswer;
+use file_header::Counts;
+use listing::Listed;
+use run::Ran;
+
+// Each call's enum, as numbers.
+pub fn done_told(a: Done) -> Answer
+    ensures { λ r. ⌜ r ≡ told (done-answer a) ⌝ }
+{
+    match a {
+        Done::Good => door_answers::good_told(),
+        Done::Refused(number, place) => door_answers::refused_told(number, place),
+    }
+}
+
+pub fn run_told(a: Ran) -> Answer
+    ensures { λ r. ⌜ r ≡ told (run-answer a) ⌝ }
+{
+    match a {
+        Ran::Good => door_answers::good_told(),
+        Ran::Abort(output, sites) => door_answers::abort_told(output, sites),
+        Ran::Refused(number, place) => door_answers::refused_told(number, place),
+    }
+}
+
+// The lengths for a circuit that was checked.
+pub fn sizes(file: &[u8], c: Counts) -> SizesAnswer
+    requires { ⌜ Opened (now file) c ⌝ }
+    ensures { λ r. ⌜ r ≡ sizes-of (circuit (now (file .entry))) ⌝ }
+{
+    let a = file_counts::count_ands(file, c);
+    let s1 = file_counts::count_owned(file, c, 1);
+    let s2 = file_counts::count_owned(file, c, 2);
+    let s3 = file_counts::count_owned(file, c, 3);
+    door_answers::sizes_from(c, a, s1, s2, s3)
+}
+
+// A listing's answer with the length of its text; where the lent buffer is not of its length, there is none.
+pub fn text_told(a: Listed) -> ListingAnswer
+    ensures { λ r. ⌜ r ≡ text-told (listed-answer a) (text-length a) ⌝ }
+{
+    match a {
+        Listed::Good(length) => ListingAnswer {
+            number: 0,
+            place: 0,
+            length,
+        },
+        Listed::Refused(number, place, length) => ListingAnswer {
+            number,
+            place,
+            length,
+        },
+    }
+}
+
+pub fn text_unfit(a: Listed) -> ListingAnswer
+    ensures { λ r. ⌜ r ≡ unfit (listed-answer a) ⌝ }
+{
+    match a {
+        Listed::Good(_) => ListingAnswer {
+            number: 10,
+            place: 0,
+            length: 0,
+        },
+        Listed::Refused(number, place, _) => ListingAnswer {
+            number,
+            place,
+            length: 0,
+        },
+    }
+}
+
+pub fn put_room(room: &[u8; 2624], n: usize, text: &mut [u8])
+    requires { ⌜ (n ≤ length (now room)) × (length (now text) ≡ 2624) ⌝ }
+    ensures { λ _. ⌜ now (text .exit) ≡ fill (now (text .entry)) (take n (now (room .entry))) ⌝ }
+{
+    file_numbers::copy_first(room, n, text);
+}

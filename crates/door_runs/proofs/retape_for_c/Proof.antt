@@ -1,0 +1,17 @@
+use borrow.Author.Needs.{needs}
+use Rattle.door_answers.proofs.Apart.{tells-by}
+use Rattle.door_runs.proofs.retape_for_c.Statement.{statement}
+use Rattle.door_runs.proofs.retape_for_c.Tie as tie
+
+returns : tie.Need-returns
+returns c = tells-by _ _ _ (c .done-told .ensures) (c .before .before .before .before .before .retape .ensures)
+
+pub retape-for-c-spec : {M : Type 1} → statement M
+retape-for-c-spec =
+    tie.close
+    (tie.spec
+    (λ c κs. search needs)
+    (λ c κs. search needs)
+    (λ c. search needs)
+    (λ c. search needs)
+    returns)

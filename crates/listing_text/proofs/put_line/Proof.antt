@@ -1,0 +1,29 @@
+use borrow.Author.Needs.{needs}
+use native.Mathlib.Omega.{arith}
+use Rattle.listing_text.proofs.TextLaws.{line-length, line-put}
+use Rattle.listing_text.proofs.put_line.Statement.{statement}
+use Rattle.listing_text.proofs.put_line.Tie as tie
+
+put-item-requires : tie.Need-put-item-requires
+put-item-requires c κs = let s = c .before .before .before in let k = line-length (s .args .word .now) (s .args .n) (s .args .p) in omega arith
+
+put-item-requires-2 : tie.Need-put-item-requires-2
+put-item-requires-2 c κs = let s = c .before .before .before .before .before .before .before .before in let k = line-length (s .args .word .now) (s .args .n) (s .args .p) in omega arith
+
+put-word-requires : tie.Need-put-word-requires
+put-word-requires c κs = let s = c .before .before .before .before .before .before .before .before .before .before .before .before .before in let k = line-length (s .args .word .now) (s .args .n) (s .args .p) in omega arith
+
+returns : tie.Need-returns
+returns c = line-put _ _ _ _ _ _ _ _ _ _ _ (c .before .before .before .before .before .before .before .before .before .before .before .before .put-item .ensures) (c .before .before .before .before .before .before .before .put-item2 .ensures) (c .before .before .put-word .ensures)
+
+pub put-line-spec : {M : Type 1} → statement M
+put-line-spec =
+    tie.close
+    (tie.spec
+    put-item-requires
+    (λ c. search needs)
+    put-item-requires-2
+    (λ c. search needs)
+    put-word-requires
+    (λ c. search needs)
+    returns)
