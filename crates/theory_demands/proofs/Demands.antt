@@ -1,5 +1,5 @@
 -- The three demands of 00, a theorem for each sentence, about the whole calls of theory_calls/specs/Calls.antt. Nothing else is here. What is said
--- of bits in demands 2 and 3 holds of every family of numbers with the laws (scope/proofs, Demand2.antt to Figures.antt, under these names).
+-- of bits in demands 2 and 3 holds of every family of numbers with the laws (theory_calls/proofs, Demand2.antt to Figures.antt, under these names).
 -- `does c` is the answer of call c, what it returns, and every lent buffer afterwards; `buffer k c` is lent buffer k afterwards;
 -- `Accepts c` says that its answer is no refusal. Assumes nothing.
 use mathlib.Core.Path.{_≡_}
