@@ -8,7 +8,8 @@
   in it, whole; every call in it is promised by one; no name stands for two calls; a call that reads a circuit file is in OnFile; and
   docs/STATEMENTS.md has exactly these calls in its table.
 - No function over a Reader that a caller outside can reach has a `requires`: anybody can make a Reader.
-- Every must-fail edit says in its first line what wrong program it is, and each text that it changes stands once where it says.
+- Every must-fail edit says in its first line what wrong program it is, and each text that it changes stands once where it says; so does each text
+  that the comment of a wrong answer (crates/theory_wrong) says is changed.
 - Sources are in the toolchain's layout (`rt fmt --check`).
 """
 
@@ -63,7 +64,7 @@ def public_calls():
 DECLARED = re.compile(r"^[ ]*(?:(?:unfoldable|abbrev)[ ]+)*pub[ ]+(\S+) :([^\n]*(?:\n[ ]+[^\n]*)*)", re.M)
 DATA = re.compile(r"^pub data (\w+) : Call → Type 0 where\n((?:[ ]+[^\n]*\n?)*)", re.M)
 MEMBER = re.compile(r"^  \S+ : (.*) → \w+ \((\S+)((?: \w+)*)\)$", re.M)
-PROMISED = re.compile(r"\bdoes \(([^\s()]+)|\bTells .*\(([A-Z][^\s()]*) |λ f\. ([^\s()]+)")
+PROMISED = re.compile(r"\bdoes \(([^\s()]+)|\bTells\b[^⌝]*?\(([A-Z][^\s()]*) |λ f\. ([^\s()]+)")
 CALLS_ROW = re.compile(r"^\| \[`(\w+)`\]\(\.\./crates/[^)]+/specs/[^)]+\.antt\)", re.M)
 
 
@@ -179,8 +180,29 @@ def edit_problems(path):
             source = source.replace(old, value)
 
 
+CHANGED = re.compile(r"^-- (\w+): `(.+)` → `(.+)`$", re.M)
+ROW = re.compile(r"(?:^-- \w+: `.+` → `.+`\n)+", re.M)
+
+
+def answer_problems():
+    """Of the wrong programs that are told by their answers: the changes of one stand above its row, one after the other."""
+    seen = 0
+    for path in sorted((ROOT / "crates" / "theory_wrong").glob("*/*.antt")):
+        for row in ROW.findall(path.read_text()):
+            changes = CHANGED.findall(row)
+            seen += 1
+            source = "\n".join(found.read_text() for found in sorted((ROOT / "crates" / changes[0][0] / "src").glob("*.rt")))
+            for name, old, new in changes:
+                if name != changes[0][0] or source.count(old) != 1:
+                    yield f"{path.relative_to(ROOT)}: a wrong answer's change of {name} stands there {source.count(old)} times: {old}"
+                source = source.replace(old, new)
+    if not seen:
+        yield "no wrong answer is seen"
+
+
 def problems():
     yield from public_problems()
+    yield from answer_problems()
     yield from call_problems()
     folders = {path.name for path in (ROOT / "crates").iterdir() if path.is_dir()}
     for name in sorted(folders ^ listed()):

@@ -81,7 +81,8 @@ pub extern "C" fn bakebutton_run(
     transcript: &mut [u8],
     store: &mut [u8],
 ) -> Answer
-    ensures { λ r. ⌜ Tells r (now (outputs .exit) ∷ now (transcript .exit) ∷ now (store .exit) ∷ []) (Run (now (file .entry)) (now (inputs .entry)) (now (tapes .entry)) (now (line .entry)) (now (outputs .entry)) (now (transcript .entry)) (now (store .entry))) ⌝ }
+    ensures { λ r. ⌜ Tells r (now (outputs .exit) ∷ now (transcript .exit) ∷ now (store .exit) ∷ [])
+        (Run (now (file .entry)) (now (inputs .entry)) (now (tapes .entry)) (now (line .entry)) (now (outputs .entry)) (now (transcript .entry)) (now (store .entry))) ⌝ }
 {
     door_runs::run_for_c(file, inputs, tapes, line, outputs, transcript, store)
 }
@@ -112,7 +113,8 @@ pub extern "C" fn bakebutton_retape(
     fresh: &mut [u8],
     room: &mut [u8],
 ) -> Answer
-    ensures { λ r. ⌜ Tells r (now (fresh .exit) ∷ now (room .exit) ∷ []) (Retape (now (file .entry)) (now (inputs .entry)) (now (tapes .entry)) (now (second .entry)) site (now (fresh .entry)) (now (room .entry))) ⌝ }
+    ensures { λ r. ⌜ Tells r (now (fresh .exit) ∷ now (room .exit) ∷ [])
+        (Retape (now (file .entry)) (now (inputs .entry)) (now (tapes .entry)) (now (second .entry)) site (now (fresh .entry)) (now (room .entry))) ⌝ }
 {
     door_runs::retape_for_c(file, inputs, tapes, second, site, fresh, room)
 }

@@ -22,7 +22,8 @@ pub fn run_for_c(
     transcript: &mut [u8],
     store: &mut [u8],
 ) -> Answer
-    ensures { λ r. ⌜ Tells r (now (outputs .exit) ∷ now (transcript .exit) ∷ now (store .exit) ∷ []) (Run (now (file .entry)) (now (inputs .entry)) (now (tapes .entry)) (now (line .entry)) (now (outputs .entry)) (now (transcript .entry)) (now (store .entry))) ⌝ }
+    ensures { λ r. ⌜ Tells r (now (outputs .exit) ∷ now (transcript .exit) ∷ now (store .exit) ∷ [])
+        (Run (now (file .entry)) (now (inputs .entry)) (now (tapes .entry)) (now (line .entry)) (now (outputs .entry)) (now (transcript .entry)) (now (store .entry))) ⌝ }
 {
     let a = run::run(file, inputs, tapes, line, outputs, transcript, store);
     door_replies::run_told(a)
@@ -53,7 +54,8 @@ pub fn retape_for_c(
     fresh: &mut [u8],
     room: &mut [u8],
 ) -> Answer
-    ensures { λ r. ⌜ Tells r (now (fresh .exit) ∷ now (room .exit) ∷ []) (Retape (now (file .entry)) (now (inputs .entry)) (now (tapes .entry)) (now (second .entry)) site (now (fresh .entry)) (now (room .entry))) ⌝ }
+    ensures { λ r. ⌜ Tells r (now (fresh .exit) ∷ now (room .exit) ∷ [])
+        (Retape (now (file .entry)) (now (inputs .entry)) (now (tapes .entry)) (now (second .entry)) site (now (fresh .entry)) (now (room .entry))) ⌝ }
 {
     let a = retape::retape(file, inputs, tapes, second, site, fresh, room);
     door_replies::done_told(a)

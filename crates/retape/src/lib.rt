@@ -79,7 +79,8 @@ pub fn retape_given(
 ) -> Done
     requires { ⌜ Checked (now file) c × (a ≡ ands (circuit (now file) .gate) (c .gates)) × (a ≤ c .gates) ⌝ }
     requires { ⌜ verdict (retape-checks (now file) (now inputs) (now tapes) (now second) site (length (now fresh)) (length (now room))) ≡ accepted ⌝ }
-    ensures { λ r. ⌜ done-after r (now (fresh .exit) ∷ now (room .exit) ∷ []) ≡ does (Retape (now (file .entry)) (now (inputs .entry)) (now (tapes .entry)) (now (second .entry)) site (now (fresh .entry)) (now (room .entry))) ⌝ }
+    ensures { λ r. ⌜ done-after r (now (fresh .exit) ∷ now (room .exit) ∷ [])
+        ≡ does (Retape (now (file .entry)) (now (inputs .entry)) (now (tapes .entry)) (now (second .entry)) site (now (fresh .entry)) (now (room .entry))) ⌝ }
 {
     retape_tapes::both_values(file, c, inputs, second, room);
     let d = retape_differs::differ(file, c, site, inputs, second, room);
@@ -103,7 +104,8 @@ pub fn retape_opened(
     room: &mut [u8],
 ) -> Done
     requires { ⌜ Checked (now file) c ⌝ }
-    ensures { λ r. ⌜ done-after r (now (fresh .exit) ∷ now (room .exit) ∷ []) ≡ does (Retape (now (file .entry)) (now (inputs .entry)) (now (tapes .entry)) (now (second .entry)) site (now (fresh .entry)) (now (room .entry))) ⌝ }
+    ensures { λ r. ⌜ done-after r (now (fresh .exit) ∷ now (room .exit) ∷ [])
+        ≡ does (Retape (now (file .entry)) (now (inputs .entry)) (now (tapes .entry)) (now (second .entry)) site (now (fresh .entry)) (now (room .entry))) ⌝ }
 {
     let a = file_counts::count_ands(file, c);
     let f = given_fault(
@@ -134,7 +136,8 @@ pub fn retape(
     fresh: &mut [u8],
     room: &mut [u8],
 ) -> Done
-    ensures { λ r. ⌜ done-after r (now (fresh .exit) ∷ now (room .exit) ∷ []) ≡ does (Retape (now (file .entry)) (now (inputs .entry)) (now (tapes .entry)) (now (second .entry)) site (now (fresh .entry)) (now (room .entry))) ⌝ }
+    ensures { λ r. ⌜ done-after r (now (fresh .exit) ∷ now (room .exit) ∷ [])
+        ≡ does (Retape (now (file .entry)) (now (inputs .entry)) (now (tapes .entry)) (now (second .entry)) site (now (fresh .entry)) (now (room .entry))) ⌝ }
 {
     let h = check_circuit::check_file(file);
     let Header::Good(c) = h else {

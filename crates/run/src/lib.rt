@@ -60,7 +60,8 @@ pub fn run_checked(
 ) -> Ran
     requires { ⌜ Ready (now file) c (length (now inputs)) (length (now tapes)) (length (now line)) (length (now outs)) (length (now transcript)) (length (now store)) ⌝ }
     requires { ⌜ (a ≡ ands (circuit (now file) .gate) (c .gates)) × (a ≤ c .gates) ⌝ }
-    ensures { λ r. ⌜ run-after r (now (outs .exit)) (now (transcript .exit)) (now (store .exit)) ≡ ran-on (now (file .entry)) (now (inputs .entry)) (now (tapes .entry)) (now (line .entry)) (now (outs .entry)) (now (transcript .entry)) ⌝ }
+    ensures { λ r. ⌜ run-after r (now (outs .exit)) (now (transcript .exit)) (now (store .exit))
+        ≡ ran-on (now (file .entry)) (now (inputs .entry)) (now (tapes .entry)) (now (line .entry)) (now (outs .entry)) (now (transcript .entry)) ⌝ }
 {
     let k = outs.len();
     let pos = run_start::begin(file, c, a);
@@ -96,7 +97,8 @@ pub fn run_opened(
     store: &mut [u8],
 ) -> Ran
     requires { ⌜ Checked (now file) c ⌝ }
-    ensures { λ r. ⌜ run-after r (now (outputs .exit)) (now (transcript .exit)) (now (store .exit)) ≡ does (Run (now (file .entry)) (now (inputs .entry)) (now (tapes .entry)) (now (line .entry)) (now (outputs .entry)) (now (transcript .entry)) (now (store .entry))) ⌝ }
+    ensures { λ r. ⌜ run-after r (now (outputs .exit)) (now (transcript .exit)) (now (store .exit))
+        ≡ does (Run (now (file .entry)) (now (inputs .entry)) (now (tapes .entry)) (now (line .entry)) (now (outputs .entry)) (now (transcript .entry)) (now (store .entry))) ⌝ }
 {
     let a = file_counts::count_ands(file, c);
     let f = check_given::given_fault(
@@ -127,7 +129,8 @@ pub fn run(
     transcript: &mut [u8],
     store: &mut [u8],
 ) -> Ran
-    ensures { λ r. ⌜ run-after r (now (outputs .exit)) (now (transcript .exit)) (now (store .exit)) ≡ does (Run (now (file .entry)) (now (inputs .entry)) (now (tapes .entry)) (now (line .entry)) (now (outputs .entry)) (now (transcript .entry)) (now (store .entry))) ⌝ }
+    ensures { λ r. ⌜ run-after r (now (outputs .exit)) (now (transcript .exit)) (now (store .exit))
+        ≡ does (Run (now (file .entry)) (now (inputs .entry)) (now (tapes .entry)) (now (line .entry)) (now (outputs .entry)) (now (transcript .entry)) (now (store .entry))) ⌝ }
 {
     let h = check_circuit::check_file(file);
     let Header::Good(c) = h else {

@@ -75,7 +75,9 @@ pub fn judge(
     requires { ⌜ (at + 6 * c .outputs ≤ length (now line)) × (at + 6 * c .outputs ≤ length (now transcript)) × (at ≤ 65536) ⌝ }
     ensures { λ r. ⌜ r .output ≡ first (λ (k : ℕ). not (eqb (objects-on (now (file .entry)) (now (line .entry)) (now (store .entry)) (c .inputs + c .gates) at k) 0)) (c .outputs) ⌝ }
     ensures { λ r. ⌜ r .sites ≡ cond (ltb (r .output) (c .outputs)) (objects-on (now (file .entry)) (now (line .entry)) (now (store .entry)) (c .inputs + c .gates) at (r .output)) 0 ⌝ }
-    ensures { λ r. ⌜ now (transcript .exit) ≡ opens-on (now (file .entry)) (now (line .entry)) (now (store .entry)) (c .inputs + c .gates) at (now (transcript .entry)) (min (suc (r .output)) (c .outputs)) ⌝ }
+    ensures { λ r. ⌜ now (transcript .exit)
+        ≡ opens-on (now (file .entry)) (now (line .entry)) (now (store .entry)) (c .inputs + c .gates) at (now (transcript .entry))
+        (min (suc (r .output)) (c .outputs)) ⌝ }
 {
     let n = c.outputs;
     let mut k: usize = 0;

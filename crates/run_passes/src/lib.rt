@@ -73,7 +73,8 @@ fn kind_step(
     requires { ⌜ (length (now store) ≡ 6 * n) × (n ≤ 4096) ⌝ }
     requires { ⌜ Lower (gate-of kind a b) n × (w < n) ⌝ }
     requires { ⌜ Room (dealing (gate-of kind a b)) (length (now tapes)) (length (now line)) (length (now transcript)) pos ⌝ }
-    ensures { λ r. ⌜ st (now (store .exit)) (now (transcript .exit)) r ≡ gate-on (now (tapes .entry)) (now (line .entry)) n w (gate-of kind a b) (st (now (store .entry)) (now (transcript .entry)) pos) ⌝ }
+    ensures { λ r. ⌜ st (now (store .exit)) (now (transcript .exit)) r
+        ≡ gate-on (now (tapes .entry)) (now (line .entry)) n w (gate-of kind a b) (st (now (store .entry)) (now (transcript .entry)) pos) ⌝ }
 {
     if kind == 1 {
         run_steps::add_sites(store, n, a, b, w);
@@ -101,7 +102,9 @@ fn gate_step(
     requires { ⌜ Checked (now file) c × (k < c .gates) ⌝ }
     requires { ⌜ length (now store) ≡ 6 * (c .inputs + c .gates) ⌝ }
     requires { ⌜ Room (dealing (circuit (now file) .gate k)) (length (now tapes)) (length (now line)) (length (now transcript)) pos ⌝ }
-    ensures { λ r. ⌜ st (now (store .exit)) (now (transcript .exit)) r ≡ gate-on (now (tapes .entry)) (now (line .entry)) (c .inputs + c .gates) (c .inputs + k) (circuit (now (file .entry)) .gate k) (st (now (store .entry)) (now (transcript .entry)) pos) ⌝ }
+    ensures { λ r. ⌜ st (now (store .exit)) (now (transcript .exit)) r
+        ≡ gate-on (now (tapes .entry)) (now (line .entry)) (c .inputs + c .gates) (c .inputs + k) (circuit (now (file .entry)) .gate k)
+        (st (now (store .entry)) (now (transcript .entry)) pos) ⌝ }
 {
     let n = c.inputs + c.gates;
     let w = c.inputs + k;
@@ -136,7 +139,9 @@ pub fn gates_pass(
     requires { ⌜ Checked (now file) c ⌝ }
     requires { ⌜ length (now store) ≡ 6 * (c .inputs + c .gates) ⌝ }
     requires { ⌜ Room (ands (circuit (now file) .gate) (c .gates)) (length (now tapes)) (length (now line)) (length (now transcript)) pos ⌝ }
-    ensures { λ r. ⌜ st (now (store .exit)) (now (transcript .exit)) r ≡ gates-on (now (file .entry)) (now (tapes .entry)) (now (line .entry)) (c .inputs) (c .inputs + c .gates) (st (now (store .entry)) (now (transcript .entry)) pos) (c .gates) ⌝ }
+    ensures { λ r. ⌜ st (now (store .exit)) (now (transcript .exit)) r
+        ≡ gates-on (now (file .entry)) (now (tapes .entry)) (now (line .entry)) (c .inputs) (c .inputs + c .gates)
+        (st (now (store .entry)) (now (transcript .entry)) pos) (c .gates) ⌝ }
 {
     let g = c.gates;
     let mut q = pos;
@@ -234,7 +239,9 @@ fn input_at(
     requires { ⌜ length (now store) ≡ 6 * (c .inputs + c .gates) ⌝ }
     requires { ⌜ (pos .t1 ≤ 65536) × (pos .t2 ≤ 65536) × (pos .t3 ≤ 65536) × (pos .at ≤ 65536) ⌝ }
     requires { ⌜ (own-place (owner-at (now file) k) pos + 2 ≤ length (now tapes)) × (pos .at + 4 ≤ length (now line)) × (pos .at + 4 ≤ length (now transcript)) ⌝ }
-    ensures { λ r. ⌜ st (now (store .exit)) (now (transcript .exit)) r ≡ input-on (now (tapes .entry)) (now (line .entry)) (c .inputs + c .gates) k (getD (now (inputs .entry)) k 0) (owner-at (now (file .entry)) k) (st (now (store .entry)) (now (transcript .entry)) pos) ⌝ }
+    ensures { λ r. ⌜ st (now (store .exit)) (now (transcript .exit)) r
+        ≡ input-on (now (tapes .entry)) (now (line .entry)) (c .inputs + c .gates) k (getD (now (inputs .entry)) k 0) (owner-at (now (file .entry)) k)
+        (st (now (store .entry)) (now (transcript .entry)) pos) ⌝ }
 {
     let n = c.inputs + c.gates;
     let v = inputs[k];
@@ -259,7 +266,9 @@ pub fn inputs_pass(
     requires { ⌜ Checked (now file) c × (length (now inputs) ≡ c .inputs) ⌝ }
     requires { ⌜ length (now store) ≡ 6 * (c .inputs + c .gates) ⌝ }
     requires { ⌜ InRoom (circuit (now file) .owner) (c .inputs) (length (now tapes)) (length (now line)) (length (now transcript)) pos ⌝ }
-    ensures { λ r. ⌜ st (now (store .exit)) (now (transcript .exit)) r ≡ inputs-on (now (file .entry)) (now (inputs .entry)) (now (tapes .entry)) (now (line .entry)) (c .inputs + c .gates) (st (now (store .entry)) (now (transcript .entry)) pos) (c .inputs) ⌝ }
+    ensures { λ r. ⌜ st (now (store .exit)) (now (transcript .exit)) r
+        ≡ inputs-on (now (file .entry)) (now (inputs .entry)) (now (tapes .entry)) (now (line .entry)) (c .inputs + c .gates)
+        (st (now (store .entry)) (now (transcript .entry)) pos) (c .inputs) ⌝ }
 {
     let i = c.inputs;
     let mut q = pos;

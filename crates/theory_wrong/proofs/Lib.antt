@@ -2,3 +2,5 @@ pub mod Promise
 pub mod Right
 pub mod ShutOut
 pub mod RetapingShutOut
+pub mod AnswersShutOut
+pub mod ForCShutOut

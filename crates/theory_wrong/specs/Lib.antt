@@ -1,3 +1,6 @@
 pub mod Engine
 pub mod Wrong
 pub mod Retaping
+pub mod WrongReads
+pub mod WrongRuns
+pub mod WrongForC

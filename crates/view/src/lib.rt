@@ -157,7 +157,8 @@ pub fn view_opened(
     store: &mut [u8],
 ) -> Done
     requires { ⌜ Checked (now file) c ⌝ }
-    ensures { λ r. ⌜ done-after r (now (view .exit) ∷ now (store .exit) ∷ []) ≡ does (View (now (file .entry)) (now (inputs .entry)) (now (tapes .entry)) site (now (view .entry)) (now (store .entry))) ⌝ }
+    ensures { λ r. ⌜ done-after r (now (view .exit) ∷ now (store .exit) ∷ [])
+        ≡ does (View (now (file .entry)) (now (inputs .entry)) (now (tapes .entry)) site (now (view .entry)) (now (store .entry))) ⌝ }
 {
     let a = file_counts::count_ands(file, c);
     let f = given_fault(file, c, a, inputs, tapes, site, view.len(), store.len());
@@ -178,7 +179,8 @@ pub fn view_of(
     view: &mut [u8],
     store: &mut [u8],
 ) -> Done
-    ensures { λ r. ⌜ done-after r (now (view .exit) ∷ now (store .exit) ∷ []) ≡ does (View (now (file .entry)) (now (inputs .entry)) (now (tapes .entry)) site (now (view .entry)) (now (store .entry))) ⌝ }
+    ensures { λ r. ⌜ done-after r (now (view .exit) ∷ now (store .exit) ∷ [])
+        ≡ does (View (now (file .entry)) (now (inputs .entry)) (now (tapes .entry)) site (now (view .entry)) (now (store .entry))) ⌝ }
 {
     let h = check_circuit::check_file(file);
     let Header::Good(c) = h else {

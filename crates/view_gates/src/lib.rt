@@ -125,7 +125,9 @@ fn gate_step(
     requires { ⌜ Checked (now file) c × (k < c .gates) ⌝ }
     requires { ⌜ length (now store) ≡ 6 * (c .inputs + c .gates) ⌝ }
     requires { ⌜ AndRoom (dealing (circuit (now file) .gate k)) (length (now tapes)) (length (now got)) pos ⌝ }
-    ensures { λ r. ⌜ st (now (store .exit)) (now (got .exit)) r ≡ gate-seen (site-of site) (now (tapes .entry)) (c .inputs + c .gates) (c .inputs + k) (circuit (now (file .entry)) .gate k) (st (now (store .entry)) (now (got .entry)) pos) ⌝ }
+    ensures { λ r. ⌜ st (now (store .exit)) (now (got .exit)) r
+        ≡ gate-seen (site-of site) (now (tapes .entry)) (c .inputs + c .gates) (c .inputs + k) (circuit (now (file .entry)) .gate k)
+        (st (now (store .entry)) (now (got .entry)) pos) ⌝ }
 {
     let n = c.inputs + c.gates;
     let w = c.inputs + k;
@@ -159,7 +161,9 @@ pub fn gates_pass(
 ) -> Pos
     requires { ⌜ Seeing (now file) c (site-of site) (length (now tapes)) (length (now got)) (length (now store)) ⌝ }
     requires { ⌜ Begun (now file) (site-of site) (now tapes) (c .inputs + c .gates) (length (now got)) (st (now store) (now got) pos) ⌝ }
-    ensures { λ r. ⌜ st (now (store .exit)) (now (got .exit)) r ≡ gates-seen (site-of site) (now (file .entry)) (now (tapes .entry)) (c .inputs) (c .inputs + c .gates) (st (now (store .entry)) (now (got .entry)) pos) (c .gates) ⌝ }
+    ensures { λ r. ⌜ st (now (store .exit)) (now (got .exit)) r
+        ≡ gates-seen (site-of site) (now (file .entry)) (now (tapes .entry)) (c .inputs) (c .inputs + c .gates)
+        (st (now (store .entry)) (now (got .entry)) pos) (c .gates) ⌝ }
 {
     let g = c.gates;
     let mut q = pos;

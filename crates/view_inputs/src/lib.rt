@@ -109,7 +109,9 @@ fn input_at(
     requires { ⌜ length (now store) ≡ 6 * (c .inputs + c .gates) ⌝ }
     requires { ⌜ (pos .t1 ≤ 65536) × (pos .t2 ≤ 65536) × (pos .t3 ≤ 65536) × (pos .at ≤ 65536) ⌝ }
     requires { ⌜ (own-place (owner-at (now file) k) pos + 2 ≤ length (now tapes)) × (pos .at + 2 ≤ length (now got) + 2 * cond (is (site-of site) (circuit (now file) .owner k)) 1 0) ⌝ }
-    ensures { λ r. ⌜ st (now (store .exit)) (now (got .exit)) r ≡ input-seen (site-of site) (now (tapes .entry)) (c .inputs + c .gates) k (getD (now (inputs .entry)) k 0) (owner-at (now (file .entry)) k) (cond (is (site-of site) (circuit (now (file .entry)) .owner k)) 1 0) (st (now (store .entry)) (now (got .entry)) pos) ⌝ }
+    ensures { λ r. ⌜ st (now (store .exit)) (now (got .exit)) r
+        ≡ input-seen (site-of site) (now (tapes .entry)) (c .inputs + c .gates) k (getD (now (inputs .entry)) k 0) (owner-at (now (file .entry)) k)
+        (cond (is (site-of site) (circuit (now (file .entry)) .owner k)) 1 0) (st (now (store .entry)) (now (got .entry)) pos) ⌝ }
 {
     let n = c.inputs + c.gates;
     let v = inputs[k];
@@ -134,7 +136,9 @@ pub fn inputs_pass(
 ) -> Pos
     requires { ⌜ Seeing (now file) c (site-of site) (length (now tapes)) (length (now got)) (length (now store)) × (length (now inputs) ≡ c .inputs) ⌝ }
     requires { ⌜ pos ≡ start-seen (circuit (now file)) ⌝ }
-    ensures { λ r. ⌜ st (now (store .exit)) (now (got .exit)) r ≡ ins-seen (site-of site) (circuit (now (file .entry))) (at-wire (now (inputs .entry))) (read (circuit (now (file .entry))) (now (tapes .entry))) (c .inputs + c .gates) (now (store .entry)) (now (got .entry)) (c .inputs) ⌝ }
+    ensures { λ r. ⌜ st (now (store .exit)) (now (got .exit)) r
+        ≡ ins-seen (site-of site) (circuit (now (file .entry))) (at-wire (now (inputs .entry))) (read (circuit (now (file .entry))) (now (tapes .entry)))
+        (c .inputs + c .gates) (now (store .entry)) (now (got .entry)) (c .inputs) ⌝ }
 {
     let i = c.inputs;
     let mut q = pos;

@@ -30,7 +30,8 @@ fn own_step(
 ) -> usize
     requires { ⌜ Opened (now file) c × (k < c .inputs) × (k < length (now inputs)) ⌝ }
     requires { ⌜ (p + cond (is (site-of site) (circuit (now file) .owner k)) 1 0 ≤ length (now part)) × (p ≤ 65536) ⌝ }
-    ensures { λ r. ⌜ (now (part .exit) ≡ put-own (cond (is (site-of site) (circuit (now (file .entry)) .owner k)) 1 0) p (getD (now (inputs .entry)) k 0) (now (part .entry))) × (r ≡ p + cond (is (site-of site) (circuit (now (file .entry)) .owner k)) 1 0) ⌝ }
+    ensures { λ r. ⌜ (now (part .exit) ≡ put-own (cond (is (site-of site) (circuit (now (file .entry)) .owner k)) 1 0) p (getD (now (inputs .entry)) k 0) (now (part .entry)))
+        × (r ≡ p + cond (is (site-of site) (circuit (now (file .entry)) .owner k)) 1 0) ⌝ }
 {
     let own = file_counts::input_owned(file, c, site, k);
     if own == 0 {
