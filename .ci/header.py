@@ -1,6 +1,8 @@
 """Holds include/bakebutton.h, and the Rust crate over it, to the Rattle sources.
 
 - Every exported function of crates/door is declared, with the parameters and the result that its own text has, and no other is.
+- Each of them is asked by evaluator/door.c, by the Rust crate and its example, and stands in the Python package's table; bakebutton_text_bytes, which
+  is a number and no call, by the first alone.
 - Every struct that goes out (crates/door_answers, #[repr(C)]) has the same members, of the same types, in the same order.
 - Good, abort, the refusals' numbers, the order of checks and what each call checks are those of crates/theory_calls/specs and crates/theory_demands/specs.
 - Limits, kinds, the job's and the text's lengths are those of the code that tests them.
@@ -77,18 +79,22 @@ def numbers_in(text, named):
 
 
 def orders():
-    """Each call's checks in their order, by the call's name in Calls.antt."""
+    """Each call's checks in their order, by the name of its block, in whatever crate that stands."""
     named = {}
     for name, body in re.findall(r"^(\S+-checks?) [^=\n]*= (.*)$", source("crates/theory_calls/specs/Checks.antt"), re.M):
         named[name] = numbers_in(body, named)
-    text = source("crates/theory_calls/specs/Calls.antt")
+    text = "\n".join(path.read_text() for path in sorted((ROOT / "crates").glob("*/specs/*.antt")))
     fixed = list_of(re.search(r"^fixed-order = (.*)$", source("crates/theory_demands/specs/Public.antt"), re.M).group(1))
     calls = re.findall(r"^unfoldable pub (\w+?)(?:Of)? : [^\n]*→ Call$.*?checks =(.*?)buffers =", text, re.M | re.S)
     return fixed, {name: numbers_in(checks, named) for name, checks in calls}
 
 
-CALLS = {"open": "Open", "gate": "GateAt", "owner": "OwnerAt", "output": "OutputAt", "check": "Check", "sizes": "Check",
-         "traffic": "Traffic", "plain": "Plain", "run": "Run", "view": "View", "retape": "Retape", "listing": "Listing"}
+def promised():
+    """The call that each exported function promises; none for one that is no call."""
+    for name, contract in re.findall(r'pub extern "C" fn bakebutton_(\w+)\([^{]*?ensures (.*?)\n\{', source("crates/door/src/lib.rt"), re.S):
+        found = re.search(r"\bdoes \((\w+)|\bTells\b[^⌝]*?\(([A-Z]\w*) ", contract)
+        if found:
+            yield name, found.group(1) or found.group(2)
 
 
 def lengths():
@@ -162,6 +168,15 @@ def rust_problems(wanted, given):
         found = re.search(rf"#\[repr\(C\)\]\n    pub struct {camel(name)} \{{([^}}]*)\}}", text)
         if not found or re.findall(r"pub (\w+: [^,]+),", found.group(1)) != list(map(in_rust, members)):
             yield f"{RUST}: {camel(name)} has not the members {members}"
+    example, package = source("examples/rust/example/src/main.rs"), source("python/bakebutton/calls.py")
+    for name, _ in promised():
+        if f"c::bakebutton_{name}(" not in text or f"bakebutton::{name}(" not in example:
+            yield f"{RUST} has no function over bakebutton_{name}, or the example does not call it"
+        if f', "{name}", ' not in package:
+            yield f"python/bakebutton/calls.py has no {name}"
+    for name in wanted:
+        if name + "(" not in source("evaluator/door.c"):
+            yield f"evaluator/door.c does not ask {name}"
     for name in ("GOOD", "ABORT", "TEXT_BYTES"):
         if f"const {name}: usize = {defined(name)};" not in text:
             yield f"{RUST}: {name} is not {defined(name)}"
@@ -248,7 +263,10 @@ def problems():
     line = re.search(r"ORDER OF CHECKS, the same for every call: ([\d, ]*),", HEADER).group(1)
     if list_of(line) != fixed:
         yield f"the order of checks is {fixed}"
-    for name, call in CALLS.items():
+    for name, call in promised():
+        if call not in order or "bakebutton_" + name not in declared:
+            yield f"the block of {call}, which bakebutton_{name} promises, or its declaration is not found"
+            continue
         want = order[call] + ([10] if name == "listing" else [])
         text = comment_before(declared["bakebutton_" + name].split("(")[0] + "(")
         said = re.search(r"Checks ((?:\d+, )*\d+)(?:; then (\d+) with place)?", text.replace(" *", ""))

@@ -8,6 +8,11 @@
   in it, whole; every call in it is promised by one; no name stands for two calls; a call that reads a circuit file is in OnFile; and
   docs/STATEMENTS.md has exactly these calls in its table.
 - No function over a Reader that a caller outside can reach has a `requires`: anybody can make a Reader.
+- Every call of the list has a function for C, and two wrong programs at least: edits of the crate whose function promises it, or rows of
+  crates/theory_wrong.
+- The evaluator, its streams, the trials and docs/TRIALS.md have the same calls under the same numbers, and the trials ask every public function but
+  those for C, which evaluator/door.c asks. The kinds of answers that must occur among them are those of each call's checks.
+- docs/ARCHITECTURE.md has a row for each crate, and for none besides.
 - Every must-fail edit says in its first line what wrong program it is, and each text that it changes stands once where it says; so does each text
   that the comment of a wrong answer (crates/theory_wrong) says is changed.
 - Sources are in the toolchain's layout (`rt fmt --check`).
@@ -17,6 +22,8 @@ import pathlib
 import re
 import subprocess
 import sys
+
+sys.dont_write_bytecode = True  # nothing is written beside the sources
 
 ROOT = pathlib.Path(__file__).resolve().parent.parent
 
@@ -65,6 +72,7 @@ DECLARED = re.compile(r"^[ ]*(?:(?:unfoldable|abbrev)[ ]+)*pub[ ]+(\S+) :([^\n]*
 DATA = re.compile(r"^pub data (\w+) : Call → Type 0 where\n((?:[ ]+[^\n]*\n?)*)", re.M)
 MEMBER = re.compile(r"^  \S+ : (.*) → \w+ \((\S+)((?: \w+)*)\)$", re.M)
 PROMISED = re.compile(r"\bdoes \(([^\s()]+)|\bTells\b[^⌝]*?\(([A-Z][^\s()]*) |λ f\. ([^\s()]+)")
+WRONG = re.compile(r"^  call = (?:K-)?(\w+)", re.M)
 CALLS_ROW = re.compile(r"^\| \[`(\w+)`\]\(\.\./crates/[^)]+/specs/[^)]+\.antt\)", re.M)
 
 
@@ -107,7 +115,9 @@ def call_problems():
             yield f"{where}: {call} is no call, or not on variables of its own"
         elif kind != "OnFile" and re.search(r"(?:header|file)-checks", bodies[call]):
             yield f"{where}: {call} reads a circuit file and is not in OnFile, whose checks stand in the one order"
-    promised = set()
+    promised, for_c = set(), set()
+    rows = "".join(path.read_text() for path in (ROOT / "crates" / "theory_wrong" / "specs").glob("*.antt"))
+    tried = [call.lower() for call in WRONG.findall(rows)]  # a wrong program each
     for path, name, contract in public_calls():
         ensures = re.sub(r"//.*", "", re.sub(r"^.*?\bensures\b", "", contract, count=1, flags=re.S))
         own = {call for found in PROMISED.findall(ensures) for call in found if call}
@@ -117,6 +127,13 @@ def call_problems():
             yield f"{path}: {name} promises {call}, which is not in the closed list of {where}"
         if name != "bakebutton_sizes":  # made of the check's answer, and no call
             promised |= own
+            for_c |= own if path.parts[1] == "door" else set()
+            tried += [call.lower() for call in own for _ in (ROOT / path).parent.parent.glob("must-fail/*.edit")]
+    for call in sorted(listed_calls):
+        if call not in for_c:
+            yield f"{where}: {call} has no function for C"
+        if tried.count(call.lower()) < 2:
+            yield f"{where}: {call} has {tried.count(call.lower())} wrong programs, and two are wanted"
     for call in sorted(listed_calls - promised):
         yield f"{where}: no public function promises {call}"
     rows = set(CALLS_ROW.findall(public_section()))
@@ -200,13 +217,47 @@ def answer_problems():
         yield "no wrong answer is seen"
 
 
+def trial_problems():
+    """Of the trials: each call has one number everywhere, and every public function but those for C is asked."""
+    forms = re.findall(r'^    \{"(\w+)", \d', (ROOT / "evaluator" / "stream.c").read_text(), re.M)
+    sys.path.insert(0, str(ROOT / "evaluator"))
+    import damage
+    import header
+    import kinds
+    import trials
+    rows = re.findall(r"^\| (\d+) \| (\w+) \| (?:file|job)", (ROOT / "docs" / "TRIALS.md").read_text(), re.M)
+    if damage.NAMES != forms:
+        yield f"evaluator/stream.c has the calls {forms}, and evaluator/damage.py {damage.NAMES}"
+    if sorted(trials.MADE) != sorted(forms):
+        yield f"evaluator/trials.py makes {sorted(trials.MADE)}, and the evaluator {sorted(forms)}"
+    if rows != [(str(number), name) for number, name in enumerate(forms, 1)]:
+        yield f"docs/TRIALS.md has other calls than evaluator/stream.c: {rows}"
+    program = "".join(path.read_text() for name in ("trials", "trials_calls") for path in (ROOT / "crates" / name / "src").glob("*.rt"))
+    if f"1..={len(forms)} => true" not in program:
+        yield f"crates/trials/src/main.rt does not make the {len(forms)} calls"
+    for name, call in header.promised():
+        checks = set(header.orders()[1].get(call, ()))
+        asked = {4, 5, 6} if name in kinds.CHECKED else {kinds.QUESTIONS[name]} if name in kinds.QUESTIONS else set()
+        if name != "sizes" and checks & {4, 5, 6, 7, 8, 9, 12} != asked | set(kinds.BITS.get(name, ())):
+            yield f"evaluator/kinds.py asks of {name} for other refusals than its checks have, {sorted(checks)}"
+    for path, name, _ in public_calls():
+        crate = path.parts[1]
+        asked = re.sub(r"_read$", "_checked", name or "")  # what a question to a reader hands its parts to
+        if crate != "door" and f"{crate}::{asked}(" not in program:
+            yield f"the trials do not ask {crate}::{name}"
+
+
 def problems():
     yield from public_problems()
+    yield from trial_problems()
     yield from answer_problems()
     yield from call_problems()
     folders = {path.name for path in (ROOT / "crates").iterdir() if path.is_dir()}
     for name in sorted(folders ^ listed()):
         yield f"crates/{name} and crates.txt differ"
+    rows = re.findall(r"^\| `(\w+)` \|", (ROOT / "docs" / "ARCHITECTURE.md").read_text(), re.M)
+    for name in sorted(folders ^ set(rows)):
+        yield "docs/ARCHITECTURE.md: its tables of crates have " + (f"no {name}" if name in folders else f"{name}, which is none")
     for path in sorted((ROOT / "crates").rglob("*.antt")):
         for number, line in enumerate(path.read_text().splitlines(), 1):
             if re.match(r"\s*axiom\b", line):

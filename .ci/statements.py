@@ -12,7 +12,8 @@ import sys
 
 ROOT = pathlib.Path(__file__).resolve().parent.parent
 MAP = ROOT / "docs" / "STATEMENTS.md"
-THEOREMS = ["crates/theory_demands/proofs/Demands.antt", "crates/theory_demands/proofs/Marked.antt"]
+THEOREMS = sorted(str(path.relative_to(ROOT)) for path in (ROOT / "crates" / "theory_demands" / "proofs").glob("*.antt")
+                  if path.stem not in ("Lib", "PublicLaws"))  # a file of theorems more is one of them
 LINK = re.compile(r"\[`([^`]+)`\]\(([^)#]+)\)")
 COMMENT = {".antt": "--", ".rt": "//"}
 MARKS = r"[ ]*(?:(?:pub|abbrev|unfoldable)[ ]+)*"

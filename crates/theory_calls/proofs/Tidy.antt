@@ -137,7 +137,7 @@ by-verdict c good bad = by-cases (verdict (c .checks)) refl
     by-cases (refuses n p) e = ap (λ (z : After). sizes (z .lent)) (does-refused c n p e) ∙ bad n p (verdict-refused c n p e)
 
 -- a call that changes nothing at any refusal
-untouched : (c : Call) → ((n : ℕ) → c .at-refusal .lent n (c .buffers) ≡ c .buffers) → (Accepts c → sizes (c .good .lent) ≡ sizes (c .buffers)) → Tidy c
+pub untouched : (c : Call) → ((n : ℕ) → c .at-refusal .lent n (c .buffers) ≡ c .buffers) → (Accepts c → sizes (c .good .lent) ≡ sizes (c .buffers)) → Tidy c
 untouched c u good = record { unchanged = λ n h. u n; as-long = by-verdict c good (λ n p e. ap sizes (u n)) }
 
 pub open-tidy : (f : List ℕ) → Tidy (Open f)
