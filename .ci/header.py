@@ -38,7 +38,7 @@ def flat(text):
 
 def prototypes():
     """Each exported function as C declares it."""
-    for found in re.finditer(r'pub extern "C" fn (\w+)\(([^)]*)\) -> (\w+)', source("crates/door/src/lib.rt")):
+    for found in re.finditer(r'extern "C" fn (\w+)\(([^)]*)\)(?: -> (\w+))?', source("crates/door/src/lib.rt")):
         name, parameters, result = found.groups()
         words = []
         for parameter in filter(None, map(str.strip, parameters.split(","))):
@@ -49,7 +49,7 @@ def prototypes():
                 words += [f"uint8_t *{which}", f"size_t {which}_length"]
             else:
                 words.append(f"{NUMBERS[kind]} {which}")
-        out = NUMBERS[result] if result in NUMBERS else "struct " + snake(result)
+        out = "void" if result is None else NUMBERS[result] if result in NUMBERS else "struct " + snake(result)
         yield name, f"{out} {name}({', '.join(words) or 'void'}) BAKEBUTTON_LOOK;"
 
 
@@ -92,7 +92,7 @@ def orders():
 def promised():
     """The call that each exported function promises; none for one that is no call."""
     for name, contract in re.findall(r'pub extern "C" fn bakebutton_(\w+)\([^{]*?ensures (.*?)\n\{', source("crates/door/src/lib.rt"), re.S):
-        found = re.search(r"\bdoes \((\w+)|\bTells\b[^⌝]*?\(([A-Z]\w*) ", contract)
+        found = re.search(r"\bdoes \((\w+)|\bTells(?:Text)?\b[^⌝]*?\(([A-Z]\w*) ", contract)
         if found:
             yield name, found.group(1) or found.group(2)
 
@@ -267,7 +267,7 @@ def problems():
         if call not in order or "bakebutton_" + name not in declared:
             yield f"the block of {call}, which bakebutton_{name} promises, or its declaration is not found"
             continue
-        want = order[call] + ([10] if name == "listing" else [])
+        want = order[call]
         text = comment_before(declared["bakebutton_" + name].split("(")[0] + "(")
         said = re.search(r"Checks ((?:\d+, )*\d+)(?:; then (\d+) with place)?", text.replace(" *", ""))
         have = list_of(said.group(1)) + ([int(said.group(2))] if said.group(2) else [])

@@ -2,12 +2,14 @@
 
 - Every folder under crates/ is a line of crates.txt, and the other way round.
 - No definition or proof declares an axiom.
-- A public call is a function whose comment begins "PUBLIC.". Each such mark has its function, none has a `requires`, each cites `does (`
-  in its promise (a question to a reader `read-as (`), and docs/STATEMENTS.md has exactly these functions in its table.
+- A public call is a function whose comment begins "PUBLIC."; every exported function (`extern "C"`) is one. Each such mark has its function, none
+  has a `requires`, each cites `does (` in its promise (one that takes nothing is a number, and no call), and
+  docs/STATEMENTS.md has exactly these functions in its tables.
+- What the checker reads in each public function's contract is pinned to its sentence (crates/theory_wrong/proofs, Promise.antt and PromiseForC.antt).
 - The closed list of public calls (crates/theory_demands/specs/Public.antt) is that of the sources: the call that a public function promises stands
   in it, whole; every call in it is promised by one; no name stands for two calls; a call that reads a circuit file is in OnFile; and
   docs/STATEMENTS.md has exactly these calls in its table.
-- No function over a Reader that a caller outside can reach has a `requires`: anybody can make a Reader.
+- No function over a Reader that a caller outside can reach, a method too, has a `requires`: anybody can make a Reader.
 - Every call of the list has a function for C, and two wrong programs at least: edits of the crate whose function promises it, or rows of
   crates/theory_wrong.
 - The evaluator, its streams, the trials and docs/TRIALS.md have the same calls under the same numbers, and the trials ask every public function but
@@ -38,7 +40,9 @@ def listed():
 
 
 MARK = re.compile(r"//+\s*PUBLIC\b")
-FUNCTION = re.compile(r"pub (?:extern \"C\" )?fn (\w+)")
+FUNCTION = re.compile(r"\s*pub (?:extern \"C\" )?fn (\w+)")
+EXPORTED = re.compile(r"\bextern \"C\" fn (\w+)")
+NOTHING = re.compile(r"fn \w+\(\)")  # a function that takes nothing: a number, and no call
 PLACE = re.compile(r"\[`(\w+)`\]\(\.\./(crates/[^)]+/src/[^)]+\.rt)\)")  # in a row of the map's tables of public calls; a row may have several
 
 
@@ -50,7 +54,7 @@ def sources():
 def head(lines, start):
     """A function from its first line on, up to its body."""
     end = start
-    while end < len(lines) and not lines[end].startswith("{") and not (end > start and lines[end - 1].endswith("{")):
+    while end < len(lines) and not lines[end].lstrip().startswith("{") and not (end > start and lines[end - 1].endswith("{")):
         end += 1
     return "\n".join(lines[start:end])
 
@@ -68,10 +72,20 @@ def public_calls():
             yield path, found and found.group(1), head(lines, after)
 
 
+def unmarked():
+    """Path and name of each exported function that is not marked as public."""
+    marked = {(path, name) for path, name, _ in public_calls()}
+    for path, lines in sources():
+        for line in lines:
+            found = EXPORTED.search(re.sub(r"//.*", "", line))
+            if found and (path, found.group(1)) not in marked:
+                yield path, found.group(1)
+
+
 DECLARED = re.compile(r"^[ ]*(?:(?:unfoldable|abbrev)[ ]+)*pub[ ]+(\S+) :([^\n]*(?:\n[ ]+[^\n]*)*)", re.M)
 DATA = re.compile(r"^pub data (\w+) : Call → Type 0 where\n((?:[ ]+[^\n]*\n?)*)", re.M)
 MEMBER = re.compile(r"^  \S+ : (.*) → \w+ \((\S+)((?: \w+)*)\)$", re.M)
-PROMISED = re.compile(r"\bdoes \(([^\s()]+)|\bTells\b[^⌝]*?\(([A-Z][^\s()]*) |λ f\. ([^\s()]+)")
+PROMISED = re.compile(r"\bdoes \(([^\s()]+)|\bTells(?:Text)?\b[^⌝]*?\(([A-Z][^\s()]*) ")
 WRONG = re.compile(r"^  call = (?:K-)?(\w+)", re.M)
 CALLS_ROW = re.compile(r"^\| \[`(\w+)`\]\(\.\./crates/[^)]+/specs/[^)]+\.antt\)", re.M)
 
@@ -121,7 +135,7 @@ def call_problems():
     for path, name, contract in public_calls():
         ensures = re.sub(r"//.*", "", re.sub(r"^.*?\bensures\b", "", contract, count=1, flags=re.S))
         own = {call for found in PROMISED.findall(ensures) for call in found if call}
-        if name is not None and not own:
+        if name is not None and not own and not NOTHING.search(contract):
             yield f"{path}: public call {name} promises no call"
         for call in sorted(own - listed_calls):
             yield f"{path}: {name} promises {call}, which is not in the closed list of {where}"
@@ -142,11 +156,17 @@ def call_problems():
 
 
 def over_reader():
-    """Path, name and contract of each function with a Reader among its parameters that a caller outside can reach."""
+    """Path, name and contract of each function with a Reader among its parameters, or a method of one, that a caller outside can reach."""
     for path, lines in sources():
+        within = ""  # the head of the impl block that a line stands in
         for number, line in enumerate(lines):
+            if line.startswith("impl"):
+                within = line
+            elif line.startswith("}"):
+                within = ""
             found = FUNCTION.match(line)
-            if found and re.search(r"\(.*\bReader\b.*\)", head(lines, number).split("->")[0], re.S):
+            asked = head(lines, number).split("->")[0] if found else ""
+            if re.search(r"\(.*\bReader\b.*\)", asked, re.S) or ("Reader" in within and re.search(r"\(.*\bself\b", asked, re.S)):
                 yield path, found.group(1), head(lines, number)
 
 
@@ -164,14 +184,22 @@ def public_problems():
         seen.add((name, str(path)))
         if re.search(r"^\s*requires\b", contract, re.M):
             yield f"{path}: public call {name} has a requires"
-        if not re.search(r"^\s*ensures\b.*\b(?:does \(|read-as \(|Tells )", contract, re.M | re.S):
+        if not re.search(r"^\s*ensures\b", contract, re.M):
+            yield f"{path}: public call {name} promises nothing"
+        elif not NOTHING.search(contract) and not re.search(r"^\s*ensures\b.*\b(?:does \(|Tells |TellsText )", contract, re.M | re.S):
             yield f"{path}: public call {name} does not promise what its call does"
     rows = re.findall(r"^\|.*$", public_section(), re.M)
-    named = set(PLACE.findall("\n".join(rows))) - {("bakebutton_text_bytes", "crates/door/src/lib.rt")}
+    named = set(PLACE.findall("\n".join(rows)))
     for name, path in sorted(seen ^ named):
         yield f"{path}: {name} is " + ("not in docs/STATEMENTS.md's tables of public calls" if (name, path) in seen else "in docs/STATEMENTS.md's tables of public calls, and none")
     if not seen:
         yield "no public call is seen"
+    pins = "".join((ROOT / "crates" / "theory_wrong" / "proofs" / file).read_text() for file in ("Promise.antt", "PromiseForC.antt"))
+    for name, path in sorted(seen):
+        if not re.search(rf"^use Rattle\.{path.split('/')[1]}\.proofs\.{name}(?:\.Reads)? as ", pins, re.M):
+            yield f"{path}: the contract of {name} is not pinned in crates/theory_wrong/proofs"
+    for path, name in unmarked():
+        yield f"{path}: {name} is exported and not marked PUBLIC"
     for path, name, contract in over_reader():
         if re.search(r"^\s*requires\b", contract, re.M):
             yield f"{path}: {name} is over a Reader, can be reached from outside and has a requires"
@@ -242,7 +270,7 @@ def trial_problems():
             yield f"evaluator/kinds.py asks of {name} for other refusals than its checks have, {sorted(checks)}"
     for path, name, _ in public_calls():
         crate = path.parts[1]
-        asked = re.sub(r"_read$", "_checked", name or "")  # what a question to a reader hands its parts to
+        asked = re.sub(r"_read$", "_claimed", name or "")  # what a question to a reader hands its parts to
         if crate != "door" and f"{crate}::{asked}(" not in program:
             yield f"the trials do not ask {crate}::{name}"
 

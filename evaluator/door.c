@@ -361,5 +361,10 @@ struct answer listing_call(struct slice job, char text[LISTING_ROOM])
             wrong("a byte behind a text is written");
     memcpy(text, filled, a.length);
     text[a.length] = 0;
+    if (a.number) { /* the call leaves the buffer as it was: the line is the program's */
+        if (a.length)
+            wrong("a refused job has a text");
+        snprintf(text, LISTING_ROOM, "refused %zu %zu\n", a.number, a.place);
+    }
     return told(a.number, a.place, 0, good());
 }

@@ -144,42 +144,28 @@ struct answer output_call(struct slice file, uint32_t n)
     return good_with(1, output_at(&c, n), 0, 0);
 }
 
-/* Checks 1 to 3, and then a reader's counts: one that is unlike its field is
-   a "field ... not as above", and its place "the field's offset".  Counts
-   that are cut short end in zeros. */
-static struct answer check_counts(struct slice file, struct slice counts)
-{
-    struct circuit c;
-    uint8_t told[12] = {0};
-    struct answer answer = check_header(file, &c);
-    uint32_t own[3] = {c.inputs, c.gates, c.outputs};
-
-    copy(told, counts.at, counts.length < 12 ? counts.length : 12);
-    for (uint32_t n = 0; n < 3 && answer.outcome == GOOD; n++)
-        if (number_at(told + 4 * n) != own[n])
-            answer = refused(3, 4 + 4 * n);
-    return answer;
-}
-
+/* "The circuit is read through a reader that keeps the caller's file ..."
+   It "answers the stored numbers as they stand", which are the file's: the
+   counts that a reader has beside it may be anything. */
 struct answer gate_read_call(struct slice file, struct slice counts,
                              uint32_t n)
 {
-    struct answer answer = check_counts(file, counts);
-    return answer.outcome == GOOD ? gate_call(file, n) : answer;
+    (void)counts;
+    return gate_call(file, n);
 }
 
 struct answer owner_read_call(struct slice file, struct slice counts,
                               uint32_t n)
 {
-    struct answer answer = check_counts(file, counts);
-    return answer.outcome == GOOD ? owner_call(file, n) : answer;
+    (void)counts;
+    return owner_call(file, n);
 }
 
 struct answer output_read_call(struct slice file, struct slice counts,
                                uint32_t n)
 {
-    struct answer answer = check_counts(file, counts);
-    return answer.outcome == GOOD ? output_call(file, n) : answer;
+    (void)counts;
+    return output_call(file, n);
 }
 
 /* The plain Boolean values of all wires, by their meaning and without any

@@ -29,7 +29,7 @@ struct answer retape_call(struct slice file, struct slice inputs,
 struct answer traffic_call(struct slice file, uint32_t table[3][3]);
 struct answer listing_call(struct slice job, char text[LISTING_ROOM]);
 /* The same questions to a reader: a file, and beside it three counts of four
-   bytes each, which anybody may have put there. */
+   bytes each, which anybody may have put there.  They change no answer. */
 struct answer gate_read_call(struct slice file, struct slice counts,
                              uint32_t n);
 struct answer owner_read_call(struct slice file, struct slice counts,

@@ -37,7 +37,7 @@ def needed_of(name):
     if name in QUESTIONS:
         yield f"{name} refused {QUESTIONS[name]} at the count"
     if name in damage.READERS:
-        yield from (f"{name} refused 3 {p}" for p in (4, 8, 12))
+        yield from needed_of_counts(name)
     if name in CHECKED:
         yield from (f"{name} refused {n} {where}"
                     for n in (4, 5, 6) for where in WHERE)
@@ -53,6 +53,15 @@ def needed_of(name):
         yield from (f"listing refused 14 0, {why}" for why in (
             "under 16", "41521 bytes", "a wrong length"))
         yield "listing good of 41520 bytes"
+
+
+def needed_of_counts(name):
+    """Counts beside a reader's file that are not its own."""
+    yield from (f"{name} refused {n}, other counts" for n in (1, 2, 3))
+    for answer in ("good", "refused at the count"):
+        yield from (f"{name} {answer}, {count} too {how}"
+                    for count in COUNTS for how in ("small", "large"))
+        yield f"{name} {answer}, against the count beside the file"
 
 
 def needed_of_run():
@@ -135,6 +144,26 @@ def of_refusal(case, number, place):
     if (number, place) == (14, 0):
         return f"{head} 0, {of_job(case['job'])}"
     return f"{head} {place}"
+
+
+def of_counts(case, refusal):
+    """How the counts beside a reader's file are unlike its own; and whether
+    by them the number would be in its range, or not, where by the file's it
+    is not, or is."""
+    name, number = case["call"], case["number"]
+    own, beside = counts_of(case["file"]), counts_of(bytes(4) + case["counts"])
+    asked = QUESTIONS[name] - 4
+    if refusal and refusal[0] != QUESTIONS[name]:
+        if own != beside:
+            yield f"{name} refused {refusal[0]}, other counts"
+        return
+    answer = f"{name} {'refused at the count' if refusal else 'good'}"
+    for count, one, other in zip(COUNTS, own, beside):
+        how = "small" if other < one else "large"
+        if one != other:
+            yield f"{answer}, {count} too {how}"
+    if (number < own[asked]) != (number < beside[asked]):
+        yield f"{answer}, against the count beside the file"
 
 
 def above_limit(file, place):
@@ -220,6 +249,8 @@ def kinds_of(case, answer, lines):
     numbers = tuple(map(int, rest))
     refusal = numbers if outcome == "refused" else None
     found = {f"{name}, {edge}" for edge in of_edges(case, refusal)}
+    if name in damage.READERS:
+        found |= set(of_counts(case, refusal))
     if refusal:
         return (found | {of_refusal(case, *refusal)}
                 | set(together.of_refusal(case, *refusal)))

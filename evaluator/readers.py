@@ -1,5 +1,6 @@
 """The trial calls to a reader: the questions of files.py, with counts beside
-the file that may be its own, near them, another's or anything.
+the file that may be its own, near them, another's or anything: the answer is
+the file's own.
 """
 
 import struct
@@ -48,8 +49,9 @@ def named():
         yield from own_counts(file)
         if len(file) <= files.LARGE:
             for counts in other_counts(file):
-                for name in QUESTIONS:
-                    yield case(name, file, counts, 0)
+                for name, which in QUESTIONS.items():
+                    for number in sorted({0, counts_of(file)[which]}):
+                        yield case(name, file, counts, number)
 
 
 def drawn():

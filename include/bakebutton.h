@@ -70,9 +70,9 @@ extern "C" {
 
 /* ---- Version of this header and of the library that it came with */
 
-#define BAKEBUTTON_VERSION "0.1.0"
-#define BAKEBUTTON_VERSION_MAJOR 0
-#define BAKEBUTTON_VERSION_MINOR 1
+#define BAKEBUTTON_VERSION "1.0.0"
+#define BAKEBUTTON_VERSION_MAJOR 1
+#define BAKEBUTTON_VERSION_MINOR 0
 #define BAKEBUTTON_VERSION_PATCH 0
 
 /* ---- Numbers in answers */
@@ -265,7 +265,7 @@ struct bakebutton_answer bakebutton_view(const uint8_t *file, size_t file_length
  * 0 fresh (the new tapes), 1 room (plain values of all wires under the first inputs, under the second, then the site's pairs). Checks
  * 1, 2, 3, 4, 5, 6, 7, 8, 11, 10, 12, 13.
  *
- * At 13 there are no such tapes. It is the one refusal that writes: the first 2W bytes of room hold both sets of plain values. */
+ * At 13 there are no such tapes. It is the one refusal of any call that writes: the first 2W bytes of room hold both sets of plain values. */
 struct bakebutton_answer bakebutton_retape(const uint8_t *file, size_t file_length, const uint8_t *inputs, size_t inputs_length, const uint8_t *tapes, size_t tapes_length, const uint8_t *second, size_t second_length, size_t site, uint8_t *fresh, size_t fresh_length, uint8_t *room, size_t room_length) BAKEBUTTON_LOOK;
 
 /* ---- The listing of a job */
@@ -274,9 +274,8 @@ struct bakebutton_answer bakebutton_retape(const uint8_t *file, size_t file_leng
 size_t bakebutton_text_bytes(void) BAKEBUTTON_LOOK;
 
 /* A job (docs/FORMAT.md) has a circuit, inputs and tapes in one slice; its listing is the text that the program bakebutton prints.
- * Lent: 0 text, of BAKEBUTTON_TEXT_BYTES; the first length bytes are the text, with no zero behind it, and the rest is as it was. A
- * refused job has a text too, `refused N P` and a line feed. Checks 14, 1, 2, 3, 4, 5, 6, 7, 8, 10; where text has another length than
- * it should, nothing is written and length is 0. */
+ * Lent: 0 text, of BAKEBUTTON_TEXT_BYTES; the first length bytes are the text, with no zero behind it, and the rest is as it was. Checks
+ * 14, 1, 2, 3, 4, 5, 6, 7, 8, 10. At a refusal length is 0; the program's line for it is `refused N P`, number and place. */
 struct bakebutton_listing_answer bakebutton_listing(const uint8_t *job, size_t job_length, uint8_t *text, size_t text_length) BAKEBUTTON_LOOK;
 
 #ifdef __cplusplus

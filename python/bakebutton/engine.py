@@ -105,6 +105,6 @@ def retape(file, inputs, tapes, second, site):
 
 
 def listing(job):
-    """A job's listing. A refused job has a text too, so nothing is raised."""
+    """A job's listing, as the program prints it: of a refused job that is one line, so nothing is raised."""
     (number, place, length), (text,) = ask("listing", [job], lent=[TEXT_BYTES])
-    return Listing(number, place, text[:length].decode("ascii"))
+    return Listing(number, place, f"refused {number} {place}\n" if number else text[:length].decode("ascii"))

@@ -3,7 +3,7 @@
 ghost use mathlib.Core.Path.{_≡_};
 ghost use mathlib.Core.List.{[], _∷_};
 ghost use Rattle.theory_calls.specs.Calls.{Open, GateAt, OwnerAt, OutputAt, Check, Plain, Run, View, Retape, Traffic, Listing, does};
-ghost use Rattle.door_answers.specs.Told.{Tells, told-counts, told-gate, told-owner, told-output, told-traffic, told-listing, text-left};
+ghost use Rattle.door_answers.specs.Told.{Tells, told-counts, told-gate, told-owner, told-output, told-traffic, TellsText};
 ghost use Rattle.door_answers.specs.Sizes.{sized};
 use door_answers::Answer;
 use door_answers::CountsAnswer;
@@ -127,7 +127,7 @@ pub extern "C" fn bakebutton_traffic(file: &[u8]) -> TrafficAnswer
     door_figures::traffic_for_c(file)
 }
 
-// How many bytes a listing is lent: a number for C, and no call.
+// PUBLIC. How many bytes a listing is lent: a number for C, and no call.
 #[no_mangle]
 pub extern "C" fn bakebutton_text_bytes() -> usize
     ensures { λ r. ⌜ r ≡ 2624 ⌝ }
@@ -135,10 +135,10 @@ pub extern "C" fn bakebutton_text_bytes() -> usize
     2624
 }
 
-// PUBLIC. The text of a job's listing, in front in the lent buffer. A buffer of another length is left as it was.
+// PUBLIC. The text of a job's listing, in front in the lent buffer; a refusal leaves it as it was.
 #[no_mangle]
 pub extern "C" fn bakebutton_listing(job: &[u8], text: &mut [u8]) -> ListingAnswer
-    ensures { λ r. ⌜ (r ≡ told-listing (now (text .entry)) (does (Listing (now (job .entry))))) × (now (text .exit) ≡ text-left (now (text .entry)) (does (Listing (now (job .entry))))) ⌝ }
+    ensures { λ r. ⌜ TellsText r (now (text .exit) ∷ []) (Listing (now (job .entry)) (now (text .entry))) ⌝ }
 {
     door_figures::listing_for_c(job, text)
 }

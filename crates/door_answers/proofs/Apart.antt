@@ -2,19 +2,17 @@
 --     numbers-tell       the answer, from number, place and sites
 --     answer-by, tells-by    a call's statement, from what its own function ensures: of the answer alone, and with the buffers
 --     given-one          two structs that meet one equation are one: those of open, check, gate, owner, output, sizes and traffic
---     tells-one, listing-told-one    two answers that meet a statement are one, the buffers too: of plain values, run, view and re-taping; of the listing
+--     tells-one          with the lent buffers: those of plain values, run, view, re-taping and listing
 -- Assumes nothing.
 use mathlib.Core.Path.{_≡_, refl, sym, ap, _∙_}
 use mathlib.Core.List.{List}
 use Prim.Native.Nat.{ℕ}
 use native.Mathlib.Omega.{arith}
 use Rattle.theory_calls.specs.Answer.{Answer as Said, good, abort, refused, After, number-of, place-of}
-use Rattle.theory_calls.specs.Calls.{Call, Listing, does}
+use Rattle.theory_calls.specs.Calls.{Call, does}
 use Rattle.theory_demands.specs.Public.{Public}
 use Rattle.theory_demands.proofs.PublicLaws.{refusal-numbers}
-use Rattle.door_answers.specs.declared.Answer.{Answer}
-use Rattle.door_answers.specs.declared.ListingAnswer.{ListingAnswer}
-use Rattle.door_answers.specs.Told.{sites-of, told, Tells, told-listing, text-left}
+use Rattle.door_answers.specs.Told.{sites-of, TellsBy}
 
 module _ (c : Call) (o : Public c) where
   abbrev a : Said
@@ -40,16 +38,12 @@ pub given-one : {A : Type 0} (x r s : A) → r ≡ x → s ≡ x → r ≡ s
 given-one x r s h k = h ∙ sym k
 
 -- the statement is an equation for the answer and one for the buffers, so two that meet it are one
-pub tells-one : (c : Call) (r s : Answer) (l m : List (List ℕ)) → Tells r l c → Tells s m c → (r ≡ s) × (l ≡ m)
-tells-one c r s l m h k = (given-one _ r s (h .0) (k .0), given-one _ l m (h .1) (k .1))
-
-pub listing-told-one : (job text : List ℕ) (r s : ListingAnswer) (l m : List ℕ) → (r ≡ told-listing text (does (Listing job))) × (l ≡ text-left text (does (Listing job)))
-    → (s ≡ told-listing text (does (Listing job))) × (m ≡ text-left text (does (Listing job))) → (r ≡ s) × (l ≡ m)
-listing-told-one job text r s l m h k = (given-one _ r s (h .0) (k .0), given-one _ l m (h .1) (k .1))
+pub tells-one : {A : Type 0} (f : Said → A) (c : Call) (r s : A) (l m : List (List ℕ)) → TellsBy f r l c → TellsBy f s m c → (r ≡ s) × (l ≡ m)
+tells-one f c r s l m h k = (given-one _ r s (h .0) (k .0), given-one _ l m (h .1) (k .1))
 
 -- the statement, from what the call's own function ensures
 pub answer-by : {A : Type 0} (f : Said → A) (after then : After) (r : A) → r ≡ f (after .answer) → after ≡ then → r ≡ f (then .answer)
 answer-by f after then r h e = h ∙ ap (λ (z : After). f (z .answer)) e
 
-pub tells-by : (c : Call) (after : After) (r : Answer) → r ≡ told (after .answer) → after ≡ does c → Tells r (after .lent) c
-tells-by c after r h e = (answer-by told after (does c) r h e, ap (λ (z : After). z .lent) e)
+pub tells-by : {A : Type 0} (f : Said → A) (c : Call) (after : After) (r : A) → r ≡ f (after .answer) → after ≡ does c → TellsBy f r (after .lent) c
+tells-by f c after r h e = (answer-by f after (does c) r h e, ap (λ (z : After). z .lent) e)

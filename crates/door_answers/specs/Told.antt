@@ -1,17 +1,14 @@
 -- An answer as it goes out to C: numbers in a struct. The first is `number-of` of scope: 0 good, 100 abort, else the refusal's.
 --     sites-of, value-of                 what stands beside the number
 --     told                               the answer of plain values, run, view and re-taping
---     Tells                              that answer, with all lent buffers as they are afterwards, is what the call does
+--     TellsBy, Tells                     a struct that has the answer, with all lent buffers as they are afterwards, is what the call does; with told
 --     told-counts .. told-output         the answers that have values: 0 each where there are none
 --     told-traffic                       the answer, and the table's rows one after the other
---     text-of, told-listing, text-left   a listing's text goes into a lent buffer, whose length is looked at
+--     told-listing, TellsText            the answer, and the length of the text in the lent buffer; with the buffer
 use mathlib.Core.Path.{_≡_}
-use mathlib.Core.Bool.{Bool, cond}
 use mathlib.Core.List.{List, [], _∷_}
 use Prim.Native.Nat.{ℕ}
-use lib.ListN.{length, getD}
-use lib.Dec.{eqb}
-use Rattle.theory_sharing.specs.Store.{fill}
+use lib.ListN.{getD}
 use Rattle.theory_calls.specs.Answer.{Answer as Said, good, abort, refused, After, number-of, place-of}
 use Rattle.theory_calls.specs.Calls.{Call, does}
 use Rattle.door_answers.specs.declared.Answer.{Answer}
@@ -37,8 +34,11 @@ value-of k (refused n p) = 0
 abbrev pub told : Said → Answer
 told a = record { number = number-of a; place = place-of a; sites = sites-of a }
 
+abbrev pub TellsBy : {A : Type 0} → (Said → A) → A → List (List ℕ) → Call → Type 0
+TellsBy f r lent c = (r ≡ f (does c .answer)) × (lent ≡ does c .lent)
+
 abbrev pub Tells : Answer → List (List ℕ) → Call → Type 0
-Tells r lent c = (r ≡ told (does c .answer)) × (lent ≡ does c .lent)
+Tells r lent c = TellsBy told r lent c
 
 abbrev pub told-counts : Said → CountsAnswer
 told-counts a = record { number = number-of a; place = place-of a; inputs = value-of 0 a; gates = value-of 1 a; outputs = value-of 2 a }
@@ -72,21 +72,8 @@ nine t =
 abbrev pub told-traffic : After → TrafficAnswer
 told-traffic a = record { number = number-of (a .answer); place = place-of (a .answer); bits = nine (a .returned) }
 
--- the text of a listing
-abbrev pub text-of : After → List ℕ
-text-of a = getD (a .returned) 0 []
+abbrev pub told-listing : Said → ListingAnswer
+told-listing a = record { number = number-of a; place = place-of a; length = value-of 0 a }
 
-abbrev pub text-told : Said → ℕ → ListingAnswer
-text-told a n = record { number = number-of a; place = place-of a; length = n }
-
--- Where the lent buffer has not its 2,624 bytes, nothing is written: the listing's own refusals come first, else it is 10, buffer 0.
-unfoldable pub unfit : Said → ListingAnswer
-unfit (good vs) = record { number = 10; place = 0; length = 0 }
-unfit (abort o m) = record { number = 10; place = 0; length = 0 }
-unfit (refused n p) = record { number = n; place = p; length = 0 }
-
-unfoldable pub told-listing : List ℕ → After → ListingAnswer
-told-listing text a = cond (eqb (length text) 2624) (text-told (a .answer) (length (text-of a))) (unfit (a .answer))
-
-unfoldable pub text-left : List ℕ → After → List ℕ
-text-left text a = cond (eqb (length text) 2624) (fill text (text-of a)) text
+abbrev pub TellsText : ListingAnswer → List (List ℕ) → Call → Type 0
+TellsText r lent c = TellsBy told-listing r lent c

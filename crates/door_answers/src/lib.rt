@@ -6,7 +6,7 @@ ghost use Prim.Native.Nat.{_≤_};
 ghost use Rattle.theory_calls.specs.Answer.{good, abort, refused};
 ghost use Rattle.file_header.specs.Answers.{header-answer};
 ghost use Rattle.file_parts.specs.Answers.{gate-answer, owner-answer, output-answer};
-ghost use Rattle.door_answers.specs.Told.{told, told-counts, told-gate, told-owner, told-output, nine, text-told};
+ghost use Rattle.door_answers.specs.Told.{told, told-counts, told-gate, told-owner, told-output, nine};
 ghost use Rattle.door_answers.specs.Sizes.{no-sizes};
 ghost use Rattle.door_answers.specs.Mirror.{sizes-from};
 use file_header::Counts;

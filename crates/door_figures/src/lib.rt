@@ -1,7 +1,8 @@
 // What is told of a circuit and a job for C: lengths, traffic, the listing's text. The door hands each on.
 ghost use mathlib.Core.Path.{_≡_};
+ghost use mathlib.Core.List.{[], _∷_};
 ghost use Rattle.theory_calls.specs.Calls.{Check, Traffic, Listing, does};
-ghost use Rattle.door_answers.specs.Told.{told-traffic, told-listing, text-left};
+ghost use Rattle.door_answers.specs.Told.{told-traffic, TellsText};
 ghost use Rattle.door_answers.specs.Sizes.{sized};
 use door_answers::ListingAnswer;
 use door_answers::SizesAnswer;
@@ -34,16 +35,10 @@ pub fn traffic_for_c(file: &[u8]) -> TrafficAnswer
     }
 }
 
-// The text of a job's listing, in front in the lent buffer. A buffer of another length is left as it was.
+// The text of a job's listing, in front in the lent buffer; a refusal leaves it as it was.
 pub fn listing_for_c(job: &[u8], text: &mut [u8]) -> ListingAnswer
-    ensures { λ r. ⌜ (r ≡ told-listing (now (text .entry)) (does (Listing (now (job .entry))))) × (now (text .exit) ≡ text-left (now (text .entry)) (does (Listing (now (job .entry))))) ⌝ }
+    ensures { λ r. ⌜ TellsText r (now (text .exit) ∷ []) (Listing (now (job .entry)) (now (text .entry))) ⌝ }
 {
-    let mut room = [0u8; 2624];
-    let a = listing::listing(job, &mut room);
-    if text.len() != 2624 {
-        return door_replies::text_unfit(a);
-    }
-    let r = door_replies::text_told(a);
-    door_replies::put_room(&room, r.length, text);
-    r
+    let a = listing::listing(job, text);
+    door_replies::text_told(a)
 }

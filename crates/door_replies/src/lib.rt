@@ -1,14 +1,11 @@
 // What the calls answer, as the structs that C gets: their enums, the lengths for a circuit, the listing's text.
 ghost use mathlib.Core.Path.{_≡_};
-ghost use Prim.Native.Nat.{_≤_};
-ghost use lib.ListN.{length, take};
-ghost use Rattle.theory_sharing.specs.Store.{fill};
 ghost use Rattle.theory_calls.specs.File.{circuit};
 ghost use Rattle.file_header.specs.Opened.{Opened};
 ghost use Rattle.check_circuit.specs.Answers.{done-answer};
 ghost use Rattle.run.specs.Answers.{run-answer};
-ghost use Rattle.listing.specs.Answers.{listed-answer, text-length};
-ghost use Rattle.door_answers.specs.Told.{told, text-told, unfit};
+ghost use Rattle.listing.specs.Answers.{listed-answer};
+ghost use Rattle.door_answers.specs.Told.{told, told-listing};
 ghost use Rattle.door_answers.specs.Sizes.{sizes-of};
 use check_circuit::Done;
 use door_answers::Answer;
@@ -50,9 +47,9 @@ pub fn sizes(file: &[u8], c: Counts) -> SizesAnswer
     door_answers::sizes_from(c, a, s1, s2, s3)
 }
 
-// A listing's answer with the length of its text; where the lent buffer is not of its length, there is none.
+// A listing's answer, with the length of its text.
 pub fn text_told(a: Listed) -> ListingAnswer
-    ensures { λ r. ⌜ r ≡ text-told (listed-answer a) (text-length a) ⌝ }
+    ensures { λ r. ⌜ r ≡ told-listing (listed-answer a) ⌝ }
 {
     match a {
         Listed::Good(length) => ListingAnswer {
@@ -60,34 +57,10 @@ pub fn text_told(a: Listed) -> ListingAnswer
             place: 0,
             length,
         },
-        Listed::Refused(number, place, length) => ListingAnswer {
-            number,
-            place,
-            length,
-        },
-    }
-}
-
-pub fn text_unfit(a: Listed) -> ListingAnswer
-    ensures { λ r. ⌜ r ≡ unfit (listed-answer a) ⌝ }
-{
-    match a {
-        Listed::Good(_) => ListingAnswer {
-            number: 10,
-            place: 0,
-            length: 0,
-        },
-        Listed::Refused(number, place, _) => ListingAnswer {
+        Listed::Refused(number, place) => ListingAnswer {
             number,
             place,
             length: 0,
         },
     }
-}
-
-pub fn put_room(room: &[u8; 2624], n: usize, text: &mut [u8])
-    requires { ⌜ (n ≤ length (now room)) × (length (now text) ≡ 2624) ⌝ }
-    ensures { λ _. ⌜ now (text .exit) ≡ fill (now (text .entry)) (take n (now (room .entry))) ⌝ }
-{
-    file_numbers::copy_first(room, n, text);
 }

@@ -23,7 +23,9 @@ use Rattle.check_slices.specs.Mirror.{job-fault-of}
 use Rattle.file_parts.proofs.CheckedLaws.{both}
 use Rattle.check_given.specs.Mirror.{slices-checks}
 use Rattle.check_slices.proofs.ChainLaws.{nothing}
-use Rattle.listing.specs.Mirror.{says-refused, judged, says}
+use Rattle.listing.specs.declared.Listed.the-variants.{Refused}
+use Rattle.listing.specs.Answers.{listed-answer, listed-after}
+use Rattle.listing.specs.Mirror.{text-check, judged, says}
 
 not-false : (b : Bool) → (not b || false) ≡ false → b ≡ true
 not-false true e = refl
@@ -36,27 +38,27 @@ pub record Offsets (j : List ℕ) : Type 0 where
   pub tapes-from : le32 j 8 ≤ le32 j 12
   pub tapes-to : le32 j 12 ≤ length j
 
-module _ (j : List ℕ) (p : ℕ) (e : p ≡ job-fault-of j) where
-  abbrev Eight : List Refusal
-  Eight = circuit-checks (job-file j) ++ slices-checks (job-file j) (job-inputs j) (job-tapes j)
+module _ (j b : List ℕ) (p : ℕ) (e : p ≡ job-fault-of j) where
+  abbrev Others : List Refusal
+  Others = circuit-checks (job-file j) ++ (slices-checks (job-file j) (job-inputs j) (job-tapes j) ++ text-check b)
 
-  goes : Listing j .checks ≡ refusal 14 (row-job j) ∷ Eight
+  goes : Listing j b .checks ≡ refusal 14 (row-job j) ∷ Others
   unfolding Listing
   goes = refl
 
-  pub job-refused : p < 13 → says-refused 14 p ≡ does (Listing j)
-  unfolding Listing
-  job-refused h = sym (does-refused (Listing j) 14 p (sym (row-refuses 14 Eight (row-job j) p e h)))
+  pub job-refused : p < 13 → listed-after (Refused 14 p) b ≡ does (Listing j b)
+  unfolding Listing listed-answer
+  job-refused h = sym (does-refused (Listing j b) 14 p (sym (row-refuses 14 Others (row-job j) p e h)))
 
-  settled : (v : Verdict) → judged (job-file j) (job-inputs j) (job-tapes j) v ≡ settle (Listing j) v
-  unfolding judged settle Listing
+  settled : (v : Verdict) → judged (job-file j) (job-inputs j) (job-tapes j) b v ≡ settle (Listing j b) v
+  unfolding judged settle Listing listed-answer
   settled accepted = refl
   settled (refuses n q) = refl
 
   module _ (h : 13 ≤ p) where
-    pub job-parts : says (job-file j) (job-inputs j) (job-tapes j) ≡ does (Listing j)
+    pub job-parts : says (job-file j) (job-inputs j) (job-tapes j) b ≡ does (Listing j b)
     unfolding does
-    job-parts = settled (verdict Eight) ∙ ap (settle (Listing j)) (row-passes 14 Eight (row-job j) p e h ∙ ap verdict (sym goes))
+    job-parts = settled (verdict Others) ∙ ap (settle (Listing j b)) (row-passes 14 Others (row-job j) p e h ∙ ap verdict (sym goes))
 
     clear-14 : Clear (row-job j .bad) 13
     unfolding Passes
@@ -74,16 +76,16 @@ module _ (j : List ℕ) (p : ℕ) (e : p ≡ job-fault-of j) where
 pub to-the-end : (k : ℕ) (j : List ℕ) → take (length j - k) (drop k j) ≡ drop k j
 to-the-end k j = take-all (length j - k) (drop k j) (let l = length-drop k j in omega arith)
 
-module _ (j : List ℕ) (p : ℕ) (e : p ≡ job-fault-of j) (h : 13 ≤ p) where
+module _ (j b : List ℕ) (p : ℕ) (e : p ≡ job-fault-of j) (h : 13 ≤ p) where
   pub at-8 : 8 + 4 ≤ length j
-  at-8 = let k = offsets j p e h .long in omega arith
+  at-8 = let k = offsets j b p e h .long in omega arith
 
   pub at-12 : 12 + 4 ≤ length j
-  at-12 = let k = offsets j p e h .long in omega arith
+  at-12 = let k = offsets j b p e h .long in omega arith
 
   module _ (i k : ℕ) (ei : i ≡ le32 j 8) (ek : k ≡ le32 j 12) where
     pub parts-fit : (16 ≤ i) × (i ≤ k) × (k ≤ length j)
-    parts-fit = let o = offsets j p e h in let a = o .inputs-from in let b = o .tapes-from in let d = o .tapes-to in (omega arith, omega arith, omega arith)
+    parts-fit = let o = offsets j b p e h in let a = o .inputs-from in let b = o .tapes-from in let d = o .tapes-to in (omega arith, omega arith, omega arith)
 
-    pub parts-told : says (take (i - 16) (drop 16 j)) (take (k - i) (drop i j)) (drop k j) ≡ does (Listing j)
-    parts-told = (λ a. says (take (ei a - 16) (drop 16 j)) (take (ek a - ei a) (drop (ei a) j)) (drop (ek a) j)) ∙ job-parts j p e h
+    pub parts-told : says (take (i - 16) (drop 16 j)) (take (k - i) (drop i j)) (drop k j) b ≡ does (Listing j b)
+    parts-told = (λ a. says (take (ei a - 16) (drop 16 j)) (take (ek a - ei a) (drop (ei a) j)) (drop (ek a) j) b) ∙ job-parts j b p e h

@@ -16,9 +16,9 @@ use lib.ListN.{length, length-append}
 use Rattle.theory_sharing.specs.Circuit.{Circuit}
 use Rattle.theory_sharing.specs.Traffic.{table-total}
 use Rattle.theory_calls.specs.Listing.{decimal, word-inputs, word-gates, word-outputs, word-bits, word-out, word-end, word-refused, space, LF, out-lines, good-text}
+use Rattle.theory_calls.proofs.Digits.{decimal-length, lines-length, line-out as out-short}
 use Rattle.listing_text.specs.Mirror.{write, line-of, counts-of, head-of, lines-of, shown-of, OneDigit}
 use Rattle.listing_text.proofs.WriteLaws.{write-none, Put, Filled, put-filled, filled-put, put-put}
-use Rattle.listing_text.proofs.DigitLaws.{one-digit, decimal-length}
 
 pub good-lines : (C : Circuit) (shown : ℕ → ℕ) → good-text C shown ≡ lines-of (C .ins) (C .gates) (C .outs) (table-total C) shown
 unfolding good-text lines-of head-of counts-of
@@ -82,11 +82,8 @@ line-refused n p h g =
     omega arith
 
 pub line-out : (o b : ℕ) → o < 1000 → b ≤ 9 → length (line-of word-out o b) ≤ 10
-line-out o b h g =
-    let k = line-length word-out o b in
-    let a : length (decimal o) ≤ 3 = decimal-length 2 o h in
-    let d = one-digit b g in
-    omega arith
+unfolding line-of
+line-out = out-short
 
 -- the lines of the outputs passed, and one more
 module _ (outs : List ℕ) where
@@ -104,13 +101,8 @@ module _ (outs : List ℕ) where
   lines-end at k i l m r p h g = rw (le-antisymm h g) at p
 
   pub lines-room : (n k : ℕ) → OneDigit outs n → n ≤ 256 → k ≤ n → length (out-lines (shown-of outs) k) ≤ 10 * k
-  unfolding out-lines OneDigit line-of
-  lines-room n zero d h g = omega arith
-  lines-room n (suc k) d h g =
-      let i = lines-room n k d h (omega arith) in
-      let a : length (word-out ++ decimal k ++ space ++ decimal (shown-of outs k) ++ LF) ≤ 10 = line-out k (shown-of outs k) (omega arith) (d k g) in
-      let e = length-append (out-lines (shown-of outs) k) (word-out ++ decimal k ++ space ++ decimal (shown-of outs k) ++ LF) in
-      omega arith
+  unfolding OneDigit
+  lines-room n k d h g = lines-length (shown-of outs) n d h k g
 
 -- the first two lines
 module _ (i g o : ℕ) where

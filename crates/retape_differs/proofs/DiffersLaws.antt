@@ -1,5 +1,5 @@
 -- 13, as the code goes through it, is scope's row.
---     own-law                             the test of an own input
+--     own-yes, own-no                     the test of an own input, and that of another site's
 --     own-place, opened-place, no-place   the place of 13, by the first of each test
 --     own-fault, opened-fault             which is the row's fault
 -- Assumes nothing.
@@ -13,7 +13,7 @@ use native.Mathlib.Nat.{eq-or-lt-of-le, le-of-eq}
 use lib.ListN.{length, getD, take, List·getD-append}
 use lib.Seq.{getD-take, getD-append-add}
 use lib.Dec.{eqb, ltb}
-use borrow.Author.Tests.{lt-ltb, le-ltb, ltb-true, ltb-false}
+use borrow.Author.Tests.{lt-ltb, le-ltb, ltb-true, ltb-false, eq-eqb, ne-eqb}
 use Rattle.theory_sharing.specs.Sites.{Site, is}
 use Rattle.theory_sharing.specs.Circuit.{Circuit, wires}
 use Rattle.theory_sharing.specs.First.{first}
@@ -29,14 +29,24 @@ use Rattle.file_header.specs.declared.Counts.{Counts}
 use Rattle.file_parts.specs.Checked.{Checked}
 use Rattle.retape_differs.specs.Mirror.{own-differs, opened-differs}
 
-pub own-law : (f : List ℕ) (s : Site) (x y : List ℕ) (k r : ℕ) → r ≡ cond (is s (circuit f .owner k)) 1 0
-    → (eqb r 1 && not (eqb (getD x k 0) (getD y k 0))) ≡ own-differs f s x y k
-unfolding own-differs
-own-law f s x y k r e = ap (λ (z : ℕ). eqb z 1 && not (eqb (getD x k 0) (getD y k 0))) e ∙ go (is s (circuit f .owner k))
-  where
-    go : (b : Bool) → (eqb (cond b 1 0) 1 && not (eqb (getD x k 0) (getD y k 0))) ≡ (b && not (eqb (getD x k 0) (getD y k 0)))
-    go true = refl
-    go false = refl
+-- whose input k is, as it was asked
+module _ (f x y : List ℕ) (s : Site) (k r : ℕ) (e : r ≡ cond (is s (circuit f .owner k)) 1 0) where
+  abbrev unlike : Bool
+  unlike = not (eqb (getD x k 0) (getD y k 0))
+
+  own-law : (eqb r 1 && unlike) ≡ own-differs f s x y k
+  unfolding own-differs
+  own-law = ap (λ (z : ℕ). eqb z 1 && unlike) e ∙ go (is s (circuit f .owner k))
+    where
+      go : (b : Bool) → (eqb (cond b 1 0) 1 && unlike) ≡ (b && unlike)
+      go true = refl
+      go false = refl
+
+  pub own-yes : r ≡ 1 → unlike ≡ own-differs f s x y k
+  own-yes d = ap (λ (b : Bool). b && unlike) (sym (eq-eqb r 1 d)) ∙ own-law
+
+  pub own-no : (r ≡ 1 → ⊥) → false ≡ own-differs f s x y k
+  own-no d = ap (λ (b : Bool). b && unlike) (sym (ne-eqb r 1 d)) ∙ own-law
 
 -- the place of 13
 module _ (f x y : List ℕ) (s : Site) (c : Counts) (ck : Checked f c) where

@@ -11,13 +11,16 @@ ghost use Rattle.retape_differs.specs.Mirror.{own-differs, opened-differ
 use file_header::Counts;
 use file_parts::Output;
 
-// An own input that differs.
+// An own input that differs. Whose it is is asked first: compiled code must not jump on another site's bits.
 fn own_bad(file: &[u8], c: Counts, site: usize, inputs: &[u8], second: &[u8], k: usize) -> bool
     requires { ⌜ Checked (now file) c × (k < c .inputs) × (length (now inputs) ≡ c .inputs) × (length (now second) ≡ c .inputs) ⌝ }
     ensures { λ r. ⌜ r ≡ own-differs (now (file .entry)) (site-of site) (now (inputs .entry)) (now (second .entry)) k ⌝ }
 {
     let o = file_counts::input_owned(file, c, site, k);
-    (o == 1) & !(inputs[k] == second[k])
+    if o == 1 {
+        return !(inputs[k] == second[k]);
+    }
+    false
 }
 
 // An output whose plain value differs.

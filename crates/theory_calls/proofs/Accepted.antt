@@ -19,7 +19,7 @@ use Rattle.theory_sharing.proofs.FirstLaws.{Clear}
 use Rattle.theory_calls.specs.File.{inputs-of, site-of, circuit}
 use Rattle.theory_calls.specs.Answer.{refused}
 use Rattle.theory_calls.specs.Checks.{Refusal, refusal, tested, one-to-three, row-short, row-large, row-field, row-owner, row-gate-of, row-output, numbers-row, row-site, row-buffer, row-differs-of, file-checks, tapes-want, line-want, fault, verdict}
-use Rattle.theory_calls.specs.Calls.{Call, CheckOf, Run, RunOf, View, ViewOf, RetapeOf, Listing, does, Accepts, run-wants, view-wants, retape-wants, job-file, job-inputs, job-tapes}
+use Rattle.theory_calls.specs.Calls.{Call, CheckOf, Run, RunOf, View, ViewOf, RetapeOf, Listing, does, Accepts, run-wants, view-wants, retape-wants, job-file, job-inputs, job-tapes, text-bytes}
 use Rattle.theory_calls.proofs.Refusals.{Clears, Passes, Without, verdict-after, last-refuses, verdict-skips, verdict-last}
 use Rattle.theory_calls.specs.Statements.{circuit-with, Family, bit-family, Fitting, Numbers, Keeps}
 use Rattle.theory_calls.proofs.RowLaws.{numbers-clear, clear-numbers, sizes-clear, clear-sizes, keeps-clear, clear-keeps}
@@ -232,20 +232,22 @@ ViewOk = ViewOkOf bit-family
 pub view-ok : (f x t : List ℕ) (s : ℕ) (v st : List ℕ) → Accepts (View f x t s v st) → ViewOk f x t s v st
 view-ok f x t s v st = view-ok-of bit-family bit-lawful f x t s v st (λ k. tt) (λ k. tt)
 
--- a listing's job
-pub record ListingOk (j : List ℕ) : Type 0 where
+-- a listing's job, and its buffer
+pub record ListingOk (j b : List ℕ) : Type 0 where
   pub sound : Sound (job-file j)
   pub in-x : Numbers bit-family (job-inputs j) (inputs-of (job-file j))
   pub in-t : Numbers bit-family (job-tapes j) (tapes-want (circuit (job-file j)))
+  pub b-long : length b ≡ text-bytes
 
-pub listing-ok : (j : List ℕ) → Accepts (Listing j) → ListingOk j
+pub listing-ok : (j b : List ℕ) → Accepts (Listing j b) → ListingOk j b
 unfolding Passes Listing
-listing-ok j a =
-    let h = accepts-passes (Listing j) a .1 in
+listing-ok j b a =
+    let h = accepts-passes (Listing j b) a .1 in
     record {
       sound = record { c1 = h .0; c2 = h .1 .0; c3 = h .1 .1 .0; c4 = h .1 .1 .1 .0; c5 = h .1 .1 .1 .1 .0; c6 = h .1 .1 .1 .1 .1 .0 };
       in-x = numbers-clear bit-family bit-lawful (job-inputs j) (inputs-of (job-file j)) (λ k. tt) (h .1 .1 .1 .1 .1 .1 .0);
       in-t = numbers-clear bit-family bit-lawful (job-tapes j) (tapes-want (circuit (job-file j))) (λ k. tt) (h .1 .1 .1 .1 .1 .1 .1 .0);
+      b-long = sizes-clear (length b ∷ []) (text-bytes ∷ []) 1 (h .1 .1 .1 .1 .1 .1 .1 .1 .0) 0 (omega arith);
     }
 
 pub check-sound : (F : Family) (f : List ℕ) → Accepts (CheckOf F f) → SoundOf F f

@@ -2,9 +2,10 @@
 -- Assumes nothing.
 use mathlib.Core.Path.{_≡_, refl, sym, ap, ap₂, _∙_, subst}
 use mathlib.Core.Bool.{not}
-use mathlib.Core.Logic.{_↔_}
+use mathlib.Core.Logic.{_↔_, _⊎_, inl, inr}
 use mathlib.Core.List.{List, [], map}
-use Prim.Native.Nat.{ℕ, suc, _+_, _*_, _<_}
+use Prim.Native.Nat.{ℕ, suc, _+_, _*_, _<_, _≤_}
+use native.Mathlib.Omega.{arith}
 use lib.ListN.{length, getD, take, drop}
 use lib.Seq.{take-at}
 use lib.Dec.{eqb}
@@ -13,6 +14,8 @@ use Rattle.theory_sharing.specs.Circuit.{Circuit, Draws, Errors, wires, all-and
 use Rattle.theory_sharing.specs.Published.{Parts, no-parts, total, parts, sent-bits}
 use Rattle.theory_sharing.specs.Steps.{Wire, hold, copies, named, opened}
 use Rattle.theory_sharing.specs.Run.{after, output, made, opens-delivered, transcript, objects, copies-at, opened-at}
+use Rattle.theory_sharing.specs.Order.{routes}
+use Rattle.theory_sharing.specs.Senders.{sends}
 use Rattle.theory_sharing.specs.Tapes.{read}
 use Rattle.theory_sharing.specs.Line.{at-output, errors}
 use Rattle.theory_sharing.specs.Store.{store, fill}
@@ -20,7 +23,9 @@ use Rattle.theory_sharing.proofs.SiteLaws.{by-site}
 use Rattle.theory_sharing.proofs.Parts.{AllDraws, total-at}
 use Rattle.theory_sharing.proofs.Clean.{look-hold, held}
 use Rattle.theory_sharing.proofs.RunLaws as RL
-use Rattle.theory_sharing.proofs.StoreLaws.{fill-rest, store-at, fill-all}
+use Rattle.theory_sharing.proofs.OrderLaws.{routes-length}
+use Rattle.theory_sharing.proofs.SenderLaws.{delivered-is-sent}
+use Rattle.theory_sharing.proofs.StoreLaws.{fill-rest, fill-read, store-at, fill-all}
 use Rattle.theory_sharing.proofs.RetapeLaws as L
 use Rattle.theory_calls.specs.Answer.{good, abort}
 use Rattle.theory_calls.specs.Checks.{tapes-want, line-want}
@@ -112,15 +117,43 @@ module _ (F : Family) (law : Lawful F) (f x t l outs tr st : List ℕ) (fx : Fit
   pub stops-nowhere-else : (does the-run .answer ≡ good []) ↔ ((o : ℕ) → o < C .outs → Alike F f x t l o)
   stops-nowhere-else = (RC.good-alike F f x t l outs tr st a, RC.all-alike F f x t l outs tr st a)
 
-  pub copies-are-delivered : (o : ℕ) → o < made (F .ops) C (at-wire x) D E
-      → (s : Site) → of (copies (take 6 (drop (at-output C o) (buffer 1 the-run)))) s ≡ copies-of F f x t l o s
-  copies-are-delivered o h s = ap (λ z. of z s) (RC.six-delivered F f x t l outs tr st a o h)
-
-  pub good-reaches-every-output : does the-run .answer ≡ good [] → made (F .ops) C (at-wire x) D E ≡ C .outs
+  good-reaches-every-output : does the-run .answer ≡ good [] → made (F .ops) C (at-wire x) D E ≡ C .outs
   good-reaches-every-output = RC.good-made F f x t l outs tr st a
 
-  pub abort-reaches-its-output : (o m : ℕ) → does the-run .answer ≡ abort o m → made (F .ops) C (at-wire x) D E ≡ suc o
+  abort-reaches-its-output : (o m : ℕ) → does the-run .answer ≡ abort o m → made (F .ops) C (at-wire x) D E ≡ suc o
   abort-reaches-its-output = RC.abort-made F f x t l outs tr st a
+
+  pub copies-are-delivered : (o : ℕ) → ((does the-run .answer ≡ good []) × (o < C .outs)) ⊎ ((p : ℕ) × (m : ℕ) × (does the-run .answer ≡ abort p m) × (o ≤ p))
+      → (s : Site) → of (copies (take 6 (drop (at-output C o) (buffer 1 the-run)))) s ≡ copies-of F f x t l o s
+  copies-are-delivered o h s = ap (λ z. of z s) (RC.six-delivered F f x t l outs tr st a o (reached h))
+    where
+      reached : ((does the-run .answer ≡ good []) × (o < C .outs)) ⊎ ((p : ℕ) × (m : ℕ) × (does the-run .answer ≡ abort p m) × (o ≤ p)) → o < made (F .ops) C (at-wire x) D E
+      reached (inl g) = let q : o < C .outs = g .1 in let e = good-reaches-every-output (g .0) in omega arith
+      reached (inr g) = let q : o ≤ g .0 = g .3 in let e = abort-reaches-its-output (g .0) (g .1) (g .2) in omega arith
+
+  -- of the bytes that are written, at each place of the line
+  byte-sent : (k : ℕ) → k < at-output C (made (F .ops) C (at-wire x) D E)
+      → (k < length (routes C (C .outs))) × (getD (buffer 1 the-run) k 0 ≡ F .ops .add (getD (sends (F .ops) C (at-wire x) D E (C .outs)) k 0) (getD l k 0))
+  unfolding transcript at-output
+  byte-sent k h =
+      let n : ℕ = made (F .ops) C (at-wire x) D E in
+      let m : n ≤ C .outs = RL.made-le (F .ops) C (at-wire x) D E in
+      let w : length (transcript (F .ops) C (at-wire x) D E) ≡ at-output C n = RC.written-transcript F f x t l outs tr st a in
+      let r : length (routes C (C .outs)) ≡ at-output C (C .outs) = routes-length C (C .outs) in (
+        omega arith,
+        ap (λ (z : List ℕ). getD z k 0) (RC.run-transcript F f x t l outs tr st a) ∙ fill-read tr _ k (omega arith)
+            ∙ delivered-is-sent (F .ops) C (at-wire x) D l n (C .outs) m k h,
+      )
+
+  pub each-delivered-bit-is-its-senders : (k : ℕ)
+      → ((does the-run .answer ≡ good []) × (k < 4 * C .ins + 12 * all-ands C + 6 * C .outs))
+      ⊎ ((p : ℕ) × (m : ℕ) × (does the-run .answer ≡ abort p m) × (k < 4 * C .ins + 12 * all-ands C + 6 * suc p))
+      → (k < length (routes C (C .outs))) × (getD (buffer 1 the-run) k 0 ≡ F .ops .add (getD (sends (F .ops) C (at-wire x) D E (C .outs)) k 0) (getD l k 0))
+  unfolding at-output
+  each-delivered-bit-is-its-senders k (inl g) =
+      byte-sent k (let q : k < at-output C (C .outs) = g .1 in let e = good-reaches-every-output (g .0) in omega arith)
+  each-delivered-bit-is-its-senders k (inr g) =
+      byte-sent k (let q : k < at-output C (suc (g .0)) = g .3 in let e = abort-reaches-its-output (g .0) (g .1) (g .2) in omega arith)
 
   pub abort-keeps-the-rest : (o m : ℕ) → does the-run .answer ≡ abort o m
       → let n = 4 * C .ins + 12 * all-ands C + 6 * suc o in

@@ -9,6 +9,8 @@ pub mod Accepted
 pub mod RunCall
 pub mod RetapeCall
 pub mod Limits
+pub mod Digits
+pub mod ListingCall
 pub mod Tidy
 pub mod Demand1
 pub mod Demand2

@@ -34,6 +34,7 @@ use Rattle.theory_calls.proofs.RowLaws.{sizes-clear}
 use Rattle.theory_calls.proofs.CallLaws.{accepts-passes, accepts-does, does-good, does-refused, verdict-refused, verdict-accepts}
 use Rattle.theory_calls.proofs.RunCall.{quiet-run, stopped-run, quiet-or-stopped}
 use Rattle.theory_calls.proofs.RetapeCall.{retape-does}
+use Rattle.theory_calls.proofs.ListingCall.{listing-short}
 use Rattle.theory_calls.proofs.Accepted.{run-ok-of, view-ok-of, retape-ok, refused-13}
 
 abbrev sizes : List (List ℕ) → List ℕ
@@ -156,9 +157,9 @@ pub output-tidy : (f : List ℕ) (n : ℕ) → Tidy (OutputAt f n)
 unfolding OutputAt
 output-tidy f n = untouched (OutputAt f n) (λ n. refl) (λ a. refl)
 
-pub listing-tidy : (j : List ℕ) → Tidy (Listing j)
+pub listing-tidy : (j b : List ℕ) → Tidy (Listing j b)
 unfolding Listing
-listing-tidy j = untouched (Listing j) (λ n. refl) (λ a. refl)
+listing-tidy j b = untouched (Listing j b) (λ n. refl) (λ a. ap (λ (n : ℕ). n ∷ []) (fill-length b _ (listing-short j b a)))
 
 module _ (F : Family) where
   pub check-tidy : (f : List ℕ) → Tidy (CheckOf F f)
@@ -194,6 +195,6 @@ module _ (F : Family) (law : Lawful F) where
     pub retape-tidy : Tidy re-taping
     unfolding RetapeOf
     retape-tidy = record {
-      unchanged = λ n h. rw (ne-eqb n 13 h);
+      unchanged = λ n h. ap (λ (b : Bool). cond b (nt ∷ fill wr (both-plain-of F (circuit-with F f) x y) ∷ []) (nt ∷ wr ∷ [])) (ne-eqb n 13 h);
       as-long = by-verdict re-taping (retape-lengths F law f x t y s nt wr fx ft fy) (λ n p e. laid n p e (eqb n 13) refl);
     }

@@ -3,7 +3,7 @@
 use mathlib.Core.Bool.{cond}
 use mathlib.Core.List.{List, [], _∷_, _++_}
 use Prim.Native.Nat.{ℕ, _+_, _*_, _-_}
-use lib.ListN.{getD, take, drop}
+use lib.ListN.{length, getD, take, drop}
 use lib.Dec.{ltb}
 use Rattle.theory_sharing.specs.Ops.{Ops, bits}
 use Rattle.theory_sharing.specs.Sites.{of}
@@ -20,7 +20,7 @@ use Rattle.theory_calls.specs.File.{le32, inputs-of, gates-of, outputs-o
 use Rattle.theory_calls.specs.Family.{Family, bit-family, circuit-with}
 use Rattle.theory_calls.specs.Answer.{Outcome, done, stopped, Left}
 use Rattle.theory_calls.specs.Checks.{refusal, header-checks, file-checks, inputs-check, tapes-check, line-check, buffers-check, site-check, second-check, differs-check, job-check, row-asked, tapes-want, line-want}
-use Rattle.theory_calls.specs.Listing.{good-text, refused-text}
+use Rattle.theory_calls.specs.Listing.{good-text}
 pub use Rattle.theory_calls.specs.Call.{Call, AtRefusal, unrefused, buffer, changes-nothing, gives-back, but-at, tells, fills, gives, answers}
 unfoldable pub use Rattle.theory_calls.specs.Call.{settle, does, Accepts}
 
@@ -196,15 +196,26 @@ job-inputs j = take (le32 j 12 - le32 j 8) (drop (le32 j 8) j)
 abbrev pub job-tapes : List ℕ → List ℕ
 job-tapes j = drop (le32 j 12) j
 
--- THE LISTING of a job. "14, which comes first"; "A refusal prints only `refused N P`, number and place."
--- All sites open the same bit on a clean line, so the listing shows site 1's.
-unfoldable pub Listing : (job : List ℕ) → Call
-Listing job =
+-- what the text of a listing is written into: the longest has fewer bytes
+abbrev pub text-bytes : ℕ
+text-bytes = 2624
+
+-- "Line one has the three counts, line two the traffic total; then one line per output, its number and bit; then `end`." All sites open the same
+-- bit on a clean line, so the listing shows site 1's.
+abbrev pub job-text : List ℕ → List ℕ
+job-text job =
+    let C = circuit (job-file job) in
+    good-text C (λ o. opened-at bits C (at-wire (job-inputs job)) (read C (job-tapes job)) no-errors o .at1)
+
+-- THE LISTING of a job, in front in a buffer of 2,624 bytes; the answer has the length of its text. "14, which comes first"
+unfoldable pub Listing : (job text : List ℕ) → Call
+Listing job text =
     let C = circuit (job-file job) in
     record {
       checks = job-check job ∷ file-checks bit-family (job-file job) ++ (
-          inputs-check bit-family C (job-inputs job) ∷ tapes-check bit-family C (job-tapes job) ∷ []);
-      buffers = [];
-      good = gives (good-text C (λ o. opened-at bits C (at-wire (job-inputs job)) (read C (job-tapes job)) no-errors o .at1) ∷ []);
-      at-refusal = gives-back (λ n p. refused-text n p ∷ []);
+          inputs-check bit-family C (job-inputs job) ∷ tapes-check bit-family C (job-tapes job)
+          ∷ buffers-check (text ∷ []) (text-bytes ∷ []) ∷ []);
+      buffers = text ∷ [];
+      good = record { answer = done (length (job-text job) ∷ []); returned = []; lent = fill text (job-text job) ∷ [] };
+      at-refusal = changes-nothing;
     }

@@ -1,7 +1,7 @@
 -- The listing's text, in bytes (ASCII).
 --     decimal            a number in digits
 --     good-text          "Line one has the three counts, line two the traffic total; then one line per output, its number and bit; then `end`."
---     refused-text       "A refusal prints only `refused N P`, number and place."
+--     refused-text       "A refusal prints only `refused N P`, number and place.": the program's line, no call's
 -- Every line ends in LF.
 use mathlib.Core.Bool.{cond}
 use mathlib.Core.List.{List, [], _∷_, _++_}

@@ -4,21 +4,23 @@
 -- `Accepts c` says that its answer is no refusal. Assumes nothing.
 use mathlib.Core.Path.{_≡_}
 use mathlib.Core.Bool.{not}
-use mathlib.Core.Logic.{_↔_}
+use mathlib.Core.Logic.{_↔_, _⊎_}
 use mathlib.Core.List.{List, [], _∷_, _++_, map}
 use Prim.Native.Nat.{ℕ, suc, _+_, _*_, _<_, _≤_}
 use lib.ListN.{length, getD, take, drop}
 use lib.Dec.{eqb}
+use lib.Bits.{bitXor}
 use Rattle.theory_sharing.specs.Ops.{bits}
 use Rattle.theory_sharing.specs.Sites.{Site, next, sites-before, of}
 use Rattle.theory_sharing.specs.Circuit.{Circuit, wires, all-ands, all-owned}
 use Rattle.theory_sharing.specs.Published.{Parts, no-parts, total, parts, sent-bits}
 use Rattle.theory_sharing.specs.Steps.{hold, copies, named, opened}
-use Rattle.theory_sharing.specs.Run.{after, output, copies-at, made, opens-delivered, transcript}
+use Rattle.theory_sharing.specs.Run.{after, output, copies-at, opens-delivered, transcript}
 use Rattle.theory_sharing.specs.Order.{routes, pick, count}
+use Rattle.theory_sharing.specs.Senders.{sends}
 use Rattle.theory_sharing.specs.Tapes.{cut, read}
 use Rattle.theory_sharing.specs.Line.{at-output, errors}
-use Rattle.theory_sharing.specs.Store.{store}
+use Rattle.theory_sharing.specs.Store.{store, fill}
 use Rattle.theory_sharing.specs.View.{own-ins}
 use Rattle.theory_sharing.specs.Traffic.{input-adds, gate-adds, output-adds, sum, comparing, add-up, table-total, no-table}
 use Rattle.theory_calls.specs.File.{circuit, site-of}
@@ -136,16 +138,20 @@ module _ (f x t l outs tr st : List ℕ) (accepted : Accepts (Run f x t l outs t
   pub stops-nowhere-else : (does the-run .answer ≡ good []) ↔ ((o : ℕ) → o < C .outs → Alike bit-family f x t l o)
   stops-nowhere-else = laws.Demand2.stops-nowhere-else bit-family bit-lawful f x t l outs tr st (bits-fit x) (bits-fit t) (bits-fit l) accepted
 
-  -- the copies are the delivered bits at their places in the transcript, for every output that the run reaches
-  pub copies-are-delivered : (o : ℕ) → o < made bits C (at-wire x) (read C t) (errors C l)
+  -- the copies are the delivered bits at their places in the transcript, for every output that the run reaches: all of a good run, at an abort
+  -- those through the output that it gives
+  pub copies-are-delivered : (o : ℕ) → ((does the-run .answer ≡ good []) × (o < C .outs)) ⊎ ((p : ℕ) × (m : ℕ) × (does the-run .answer ≡ abort p m) × (o ≤ p))
       → (s : Site) → of (copies (take 6 (drop (at-output C o) (buffer 1 the-run)))) s ≡ copies-of bit-family f x t l o s
   copies-are-delivered = laws.Demand2.copies-are-delivered bit-family bit-lawful f x t l outs tr st (bits-fit x) (bits-fit t) (bits-fit l) accepted
 
-  pub good-reaches-every-output : does the-run .answer ≡ good [] → made bits C (at-wire x) (read C t) (errors C l) ≡ C .outs
-  good-reaches-every-output = laws.Demand2.good-reaches-every-output bit-family bit-lawful f x t l outs tr st (bits-fit x) (bits-fit t) (bits-fit l) accepted
-
-  pub abort-reaches-its-output : (o m : ℕ) → does the-run .answer ≡ abort o m → made bits C (at-wire x) (read C t) (errors C l) ≡ suc o
-  abort-reaches-its-output = laws.Demand2.abort-reaches-its-output bit-family bit-lawful f x t l outs tr st (bits-fit x) (bits-fit t) (bits-fit l) accepted
+  -- 01: "The line is one byte per sent bit, xored onto it. The transcript is the delivered bits in this order.": route k is entry k of routes, and
+  -- byte k is what its sender sends, from its own pair or its own deal, xored with byte k of the line; every byte of a good run, at an abort those
+  -- through that opening's six bits
+  pub each-delivered-bit-is-its-senders : (k : ℕ)
+      → ((does the-run .answer ≡ good []) × (k < 4 * C .ins + 12 * all-ands C + 6 * C .outs))
+      ⊎ ((p : ℕ) × (m : ℕ) × (does the-run .answer ≡ abort p m) × (k < 4 * C .ins + 12 * all-ands C + 6 * suc p))
+      → (k < length (routes C (C .outs))) × (getD (buffer 1 the-run) k 0 ≡ bitXor (getD (sends bits C (at-wire x) (read C t) (errors C l) (C .outs)) k 0) (getD l k 0))
+  each-delivered-bit-is-its-senders = laws.Demand2.each-delivered-bit-is-its-senders bit-family bit-lawful f x t l outs tr st (bits-fit x) (bits-fit t) (bits-fit l) accepted
 
   -- 01: "the transcript holds everything through that opening's six bits and its rest is unchanged"
   pub abort-keeps-the-rest : (o m : ℕ) → does the-run .answer ≡ abort o m
@@ -252,13 +258,13 @@ module _ (f x t l : List ℕ) (s : ℕ) (outs tr st v vst : List ℕ) (ran : Acc
       ++ pick (site-of s) (routes (circuit f) (circuit f .outs)) (buffer 1 (Run f x t l outs tr st)) ++ plain-outs bit-family (circuit f) x (circuit f .outs)
   view-is-of-a-clean-run = laws.ViewOfRun.view-is-of-a-clean-run bit-family bit-lawful f x t l s outs tr st v vst (bits-fit x) (bits-fit t) (bits-fit l) ran seen clean
 
--- 01: the listing's bits are the plain values
-pub listing-shows-plain-values : (j : List ℕ) → Accepts (Listing j)
-    → does (Listing j) .returned ≡ good-text (circuit (job-file j)) (plain-out (circuit (job-file j)) (job-inputs j)) ∷ []
+-- 01: the listing's bits are the plain values: the text in front in its buffer, whose length it answers
+pub listing-shows-plain-values : (j b : List ℕ) → Accepts (Listing j b) → let said = good-text (circuit (job-file j)) (plain-out (circuit (job-file j)) (job-inputs j)) in
+    (does (Listing j b) .answer ≡ good (length said ∷ [])) × (buffer 0 (Listing j b) ≡ fill b said)
 listing-shows-plain-values = laws.Figures.listing-plain
 
 -- 01: "line two the traffic total": the total in that text is the sum of the table that a traffic call returns
-pub listing-shows-the-traffic-total : (j : List ℕ) → Accepts (Listing j)
+pub listing-shows-the-traffic-total : (j b : List ℕ) → Accepts (Listing j b)
     → Accepts (Traffic (job-file j)) × (table-total (circuit (job-file j)) ≡ add-up (does (Traffic (job-file j)) .returned))
 listing-shows-the-traffic-total = laws.Figures.listing-total
 

@@ -31,7 +31,7 @@ each-and-rising _ (is-plain f x vs) = (refl, omega arith)
 each-and-rising _ (is-run f x t l outs tr st) = (refl, omega arith)
 each-and-rising _ (is-view f x t s v st) = (refl, omega arith)
 each-and-rising _ (is-retape f x t y s nt wr) = (refl, omega arith)
-each-and-rising _ (is-listing j) = (refl, omega arith)
+each-and-rising _ (is-listing j b) = (refl, omega arith)
 
 pub ordered : (c : Call) → OnFile c → InOneOrder fixed-order (c .checks)
 ordered c o = let h = each-and-rising c o in in-one-order fixed-order (c .checks) (h .0) (h .1)
@@ -59,7 +59,7 @@ on-file-numbered _ (is-plain f x vs) = omega arith
 on-file-numbered _ (is-run f x t l outs tr st) = omega arith
 on-file-numbered _ (is-view f x t s v st) = omega arith
 on-file-numbered _ (is-retape f x t y s nt wr) = omega arith
-on-file-numbered _ (is-listing j) = omega arith
+on-file-numbered _ (is-listing j b) = omega arith
 
 pub refusal-numbers : (c : Call) → Public c → (N P : ℕ) → does c .answer ≡ refused N P → (1 ≤ N) × (N ≤ 14)
 refusal-numbers c (on-file o) N P e =
@@ -79,7 +79,7 @@ on-file-tidy _ (is-plain f x vs) = plain-tidy bit-family bit-lawful f x vs
 on-file-tidy _ (is-run f x t l outs tr st) = run-tidy bit-family bit-lawful f x t l outs tr st (bits-fit x) (bits-fit t) (bits-fit l)
 on-file-tidy _ (is-view f x t s v st) = view-tidy bit-family bit-lawful f x t s v st (bits-fit x) (bits-fit t)
 on-file-tidy _ (is-retape f x t y s nt wr) = retape-tidy bit-family bit-lawful f x t y s nt wr (bits-fit x) (bits-fit t) (bits-fit y)
-on-file-tidy _ (is-listing j) = listing-tidy j
+on-file-tidy _ (is-listing j b) = listing-tidy j b
 
 pub tidy : (c : Call) → Public c → Tidy c
 tidy c (on-file o) = on-file-tidy c o

@@ -7,6 +7,7 @@
 use mathlib.Core.List.{List, [], _∷_, _++_}
 use Prim.Native.Nat.{ℕ}
 use lib.ListN.{replicate, set}
+use Rattle.theory_sharing.specs.Store.{fill}
 use Rattle.theory_calls.specs.Answer.{Answer, good, abort, refused, After}
 use Rattle.theory_calls.specs.Calls.{Call, Check, Traffic, Run, View, Retape, Listing}
 
@@ -65,8 +66,8 @@ rows =
     }
     -- K1's listing
     ∷ record {
-      call = Listing K-job;
-      wanted = good-returns ((
+      call = Listing K-job (untouched 2624);
+      wanted = stopped-with (good (47 ∷ [])) (fill (untouched 2624) (
           -- inputs 2 gates 1 outputs 1
           105 ∷ 110 ∷ 112 ∷ 117 ∷ 116 ∷ 115 ∷ 32 ∷ 50 ∷ 32 ∷ 103 ∷ 97 ∷ 116 ∷ 101 ∷ 115 ∷ 32 ∷ 49 ∷ 32 ∷ 111 ∷ 117 ∷ 116 ∷ 112 ∷ 117 ∷ 116 ∷ 115 ∷ 32 ∷ 49 ∷ 10
           -- bits 23

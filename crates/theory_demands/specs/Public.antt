@@ -16,7 +16,7 @@ pub data OnFile : Call → Type 0 where
   is-run : (file inputs tapes line outputs transcript store : List ℕ) → OnFile (Run file inputs tapes line outputs transcript store)
   is-view : (file inputs tapes : List ℕ) (site : ℕ) (view store : List ℕ) → OnFile (View file inputs tapes site view store)
   is-retape : (file inputs tapes second : List ℕ) (site : ℕ) (new room : List ℕ) → OnFile (Retape file inputs tapes second site new room)
-  is-listing : (job : List ℕ) → OnFile (Listing job)
+  is-listing : (job text : List ℕ) → OnFile (Listing job text)
 
 -- 01: "Checks go by rising number .. The exceptions are 14, which comes first, and 11, which comes just before 10": one order for all of them
 abbrev pub fixed-order : List ℕ

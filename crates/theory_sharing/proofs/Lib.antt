@@ -12,6 +12,7 @@ pub mod Used
 pub mod TapeLaws
 pub mod RunLaws
 pub mod OrderLaws
+pub mod SenderLaws
 pub mod ViewLaws
 pub mod RetapeLaws
 pub mod TrafficLaws

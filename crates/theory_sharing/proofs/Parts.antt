@@ -1,4 +1,5 @@
 -- The published parts: their sum is the value, and every one of them stands for itself.
+--     draws-become-parts    01, step 1: which part each draw becomes
 --     value         the parts of every wire add up to its value
 --     look          a wire's sum, looked up
 --     parts-ok      every part is Ok;  parts-in: and stays in a closed set
@@ -8,11 +9,18 @@ use mathlib.Core.List.{List, [], _∷_, _++_, map}
 use Prim.Native.Nat.{ℕ, zero, suc}
 use lib.ListN.{getD, List·getD-map}
 use Rattle.theory_sharing.specs.Ops.{Ops}
-use Rattle.theory_sharing.specs.Sites.{Site, s1, s2, s3}
+use Rattle.theory_sharing.specs.Sites.{Site, s1, s2, s3, next, of}
 use Rattle.theory_sharing.specs.Circuit.{Gate, XOR, AND, OR, NOT, Circuit, Draws}
 use Rattle.theory_sharing.specs.Values.{value-gate, value-inputs, values}
 use Rattle.theory_sharing.specs.Published.{Parts, no-parts, total, share, add-parts, flip-parts, three, mul-parts, gate-parts, ins-parts, parts}
 use Rattle.theory_sharing.proofs.Group.{Group, Laws, Closed, nine, sums, turn, deal-sum}
+
+-- 01, step 1: "two tape bits become parts s+1 and s+2; part s is x xor both."
+pub draws-become-parts : (R : Ops) (s : Site) (v a b : ℕ) → let P = share R s v a b in
+    (of P (next s) ≡ a) × (of P (next (next s)) ≡ b) × (of P s ≡ R .sub (R .sub v a) b)
+draws-become-parts R s1 v a b = (refl, refl, refl)
+draws-become-parts R s2 v a b = (refl, refl, refl)
+draws-become-parts R s3 v a b = (refl, refl, refl)
 
 pub map-snoc : {A B : Type 0} (f : A → B) (l : List A) (a : A) → map f (l ++ (a ∷ [])) ≡ map f l ++ (f a ∷ [])
 map-snoc f [] a = refl

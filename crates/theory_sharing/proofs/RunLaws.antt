@@ -145,7 +145,7 @@ module _ (R : Ops) (C : Circuit) (x : ℕ → ℕ) (T : Draws) (E : Errors) wher
 
   pub stop-le : stop R C x T E ≤ C .outs
   unfolding stop
-  stop-le = first-le stops-at (C .outs)
+  stop-le = first-le _ (C .outs)
 
   -- nobody objects before the stop
   pub stop-before : (p : ℕ) → p < stop R C x T E → objects R C x T E p ≡ 0

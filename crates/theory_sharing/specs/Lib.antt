@@ -6,9 +6,9 @@ pub mod Values
 pub mod Order
 pub mod Published
 pub mod Steps
-pub mod Senders
 pub mod First
 pub mod Run
+pub mod Senders
 pub mod Tapes
 pub mod Line
 pub mod Store

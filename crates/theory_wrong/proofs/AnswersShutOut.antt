@@ -1,7 +1,8 @@
 -- No wrong answer of specs/WrongReads.antt and specs/WrongRuns.antt meets the statement of its call, which is that what is left is what the call
 -- does. Found by computing each call: one theorem over all rows.
---     ShutOut                   none of a list of wrong answers is what its call does
---     wrong-answers-shut-out    of both lists
+--     NoneOf, none-by           something holds of none of a list; found by a test
+--     Met                       a wrong answer is what its call does
+--     wrong-answers-shut-out    of none in both lists
 --     told-apart                by numbers: unlike-lists, lists of numbers that differ somewhere; joined, lists one after the other
 -- Assumes nothing.
 use mathlib.Core.Path.{_≡_, refl, sym, ap, _∙_}
@@ -28,15 +29,26 @@ use Rattle.theory_sharing.specs.Traffic.{input-adds, gate-adds, output-adds, su
 use Rattle.theory_calls.specs.File.{le16, le32, size, owner-at, kind-at, first-at, second-at, output-at, site-of, gate-of}
 use Rattle.theory_calls.specs.Plain.{bit, byte, plain-gate, plain-inputs, plain-values, plain}
 use Rattle.theory_calls.specs.Checks.{tested, row-owner, good-gate, row-gate-of, row-output, fault, verdict}
-use Rattle.theory_calls.specs.Listing.{digits, decimal, out-lines, good-text, refused-text}
+use Rattle.theory_calls.specs.Listing.{digits, decimal, out-lines, good-text}
 use Rattle.theory_calls.specs.Calls.{CheckOf, TrafficOf, PlainOf, RunOf, ViewOf, RetapeOf, Listing, ran-of, both-plain-of, work-room-of, settle, does, Open, GateAt, OwnerAt, OutputAt}
 use Rattle.theory_calls.specs.Answer.{Answer, good, abort, refused, After}
 use Rattle.theory_wrong.specs.WrongReads.{Wrong, wrong-reads}
 use Rattle.theory_wrong.specs.WrongRuns.{wrong-runs}
 
-unfoldable pub ShutOut : List Wrong → Type 0
-ShutOut [] = Unit {0}
-ShutOut (w ∷ ws) = (¬ (w .gives ≡ does (w .call))) × ShutOut ws
+-- something holds of none of a list
+unfoldable pub NoneOf : {A : Type 0} → (A → Type 0) → List A → Type 0
+NoneOf P [] = Unit {0}
+NoneOf P (x ∷ xs) = (¬ P x) × NoneOf P xs
+
+-- none, where a test tells so of each
+pub none-by : {A : Type 0} (P : A → Type 0) (test : A → Bool) → ((x : A) → test x ≡ true → ¬ P x) → (l : List A) → map test l ≡ map (λ (x : A). true) l → NoneOf P l
+unfolding NoneOf
+none-by P test tells [] h = tt
+none-by P test tells (x ∷ xs) h = (tells x (ap (λ (l : List Bool). getD l 0 false) h), none-by P test tells xs (ap (drop 1) h))
+
+-- a wrong answer is what its call does
+abbrev pub Met : Wrong → Type 0
+Met w = w .gives ≡ does (w .call)
 
 unfoldable pub unlike-lists : List ℕ → List ℕ → Bool
 unlike-lists [] [] = false
@@ -69,12 +81,10 @@ numbers a = said-numbers (a .answer) ++ (joined (a .returned) ++ joined (a .lent
 abbrev unlike-does : Wrong → Bool
 unlike-does w = unlike-lists (numbers (w .gives)) (numbers (does (w .call)))
 
-each : (ws : List Wrong) → map unlike-does ws ≡ map (λ (w : Wrong). true) ws → ShutOut ws
-unfolding ShutOut
-each [] h = tt
-each (w ∷ ws) h = (told-apart numbers (w .gives) (does (w .call)) (ap (λ (l : List Bool). getD l 0 false) h), each ws (ap (drop 1) h))
+tells : (w : Wrong) → unlike-does w ≡ true → ¬ Met w
+tells w = told-apart numbers (w .gives) (does (w .call))
 
 -- every row
-pub wrong-answers-shut-out : ShutOut (wrong-reads ++ wrong-runs)
-unfolding is if-own dealing ands owned value-gate value-inputs values if-deals ins-routes gates-routes routes pick mul-parts gate-parts ins-parts parts objecting copies delivered in-wire delivered3 mix gate-wire gate-delivered six opened first ins-after after ins-delivered gates-delivered output out-delivered objects stop opens-delivered made transcript opened-at outputs tape-length draws ins-tape tape at-input at-gate at-output errors side store fill own-ins seen-outs view-from next-shares shift retape new-tapes input-adds gate-adds output-adds sum entry traffic-table add-row add-up le16 le32 size owner-at kind-at first-at second-at output-at site-of gate-of bit byte plain-gate plain-inputs plain-values plain tested row-owner good-gate row-gate-of row-output fault verdict digits decimal out-lines good-text refused-text ran-of both-plain-of work-room-of settle does CheckOf TrafficOf RunOf ViewOf PlainOf RetapeOf Listing Open GateAt OwnerAt OutputAt unlike-lists said-numbers joined
-wrong-answers-shut-out = each (wrong-reads ++ wrong-runs) refl
+pub wrong-answers-shut-out : NoneOf Met (wrong-reads ++ wrong-runs)
+unfolding is if-own dealing ands owned value-gate value-inputs values if-deals ins-routes gates-routes routes pick mul-parts gate-parts ins-parts parts objecting copies delivered in-wire delivered3 mix gate-wire gate-delivered six opened first ins-after after ins-delivered gates-delivered output out-delivered objects stop opens-delivered made transcript opened-at outputs tape-length draws ins-tape tape at-input at-gate at-output errors side store fill own-ins seen-outs view-from next-shares shift retape new-tapes input-adds gate-adds output-adds sum entry traffic-table add-row add-up le16 le32 size owner-at kind-at first-at second-at output-at site-of gate-of bit byte plain-gate plain-inputs plain-values plain tested row-owner good-gate row-gate-of row-output fault verdict digits decimal out-lines good-text ran-of both-plain-of work-room-of settle does CheckOf TrafficOf RunOf ViewOf PlainOf RetapeOf Listing Open GateAt OwnerAt OutputAt unlike-lists said-numbers joined
+wrong-answers-shut-out = none-by Met unlike-does tells (wrong-reads ++ wrong-runs) refl

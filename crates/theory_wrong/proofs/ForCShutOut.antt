@@ -1,12 +1,12 @@
 -- No wrong struct for C meets the statement of its export. Found by computing the call.
---     ToldShutOut, tolds-shut-out    of plain values, run, view and re-taping: specs/WrongForC.antt
+--     Told, tolds-shut-out           of plain values, run, view and re-taping: specs/WrongForC.antt
 --     the others                     a struct that goes out by one equation, each with the words of its wrong program
 -- Assumes nothing.
-use mathlib.Core.Path.{_≡_, refl, ap}
+use mathlib.Core.Path.{_≡_, refl}
 use mathlib.Core.Bool.{Bool, true, false, _||_}
-use mathlib.Core.List.{List, [], _∷_, map}
+use mathlib.Core.List.{List, [], _∷_, _++_}
 use Prim.Native.Nat.{ℕ}
-use lib.ListN.{getD, drop}
+use lib.ListN.{set}
 use Rattle.theory_sharing.specs.Sites.{is, if-own}
 use Rattle.theory_sharing.specs.Circuit.{dealing, ands, owned}
 use Rattle.theory_sharing.specs.Values.{value-gate, value-inputs, values}
@@ -24,10 +24,10 @@ use Rattle.theory_sharing.specs.Traffic.{input-adds, gate-adds, output-adds, su
 use Rattle.theory_calls.specs.File.{le16, le32, size, owner-at, kind-at, first-at, second-at, output-at, site-of, gate-of}
 use Rattle.theory_calls.specs.Plain.{bit, byte, plain-gate, plain-inputs, plain-values, plain}
 use Rattle.theory_calls.specs.Checks.{tested, row-owner, good-gate, row-gate-of, row-output, fault, verdict}
-use Rattle.theory_calls.specs.Listing.{digits, decimal, out-lines, good-text, refused-text}
+use Rattle.theory_calls.specs.Listing.{digits, decimal, out-lines, good-text}
 use Rattle.theory_calls.specs.Calls.{CheckOf, TrafficOf, PlainOf, RunOf, ViewOf, RetapeOf, Listing, ran-of, both-plain-of, work-room-of, settle, does, Open, GateAt, OwnerAt, OutputAt, Check, Traffic}
 use Rattle.theory_calls.specs.Answer.{number-of, place-of}
-use Rattle.theory_demands.specs.Marked.{K-file, K-with, K-job}
+use Rattle.theory_demands.specs.Marked.{K-file, K-with, K-job, untouched}
 use Rattle.door_answers.specs.declared.Answer.{Answer}
 use Rattle.door_answers.specs.declared.CountsAnswer.{CountsAnswer}
 use Rattle.door_answers.specs.declared.GateAnswer.{GateAnswer}
@@ -36,15 +36,15 @@ use Rattle.door_answers.specs.declared.OutputAnswer.{OutputAnswer}
 use Rattle.door_answers.specs.declared.TrafficAnswer.{TrafficAnswer}
 use Rattle.door_answers.specs.declared.ListingAnswer.{ListingAnswer}
 use Rattle.door_answers.specs.declared.SizesAnswer.{SizesAnswer}
-use Rattle.door_answers.specs.Told.{sites-of, value-of, told, Tells, told-counts, told-gate, told-owner, told-output, told-traffic, told-listing, unfit}
+use Rattle.door_answers.specs.Told.{sites-of, value-of, told, Tells, told-counts, told-gate, told-owner, told-output, told-traffic, told-listing, TellsText}
 use Rattle.door_answers.specs.Sizes.{sized}
 use Rattle.theory_wrong.specs.WrongReads.{owned-by, two-outputs}
 use Rattle.theory_wrong.specs.WrongForC.{WrongTold, wrong-tolds, small-line, one-site}
-use Rattle.theory_wrong.proofs.AnswersShutOut.{unlike-lists, joined, told-apart}
+use Rattle.theory_wrong.proofs.AnswersShutOut.{NoneOf, none-by, unlike-lists, joined, told-apart}
 
-unfoldable pub ToldShutOut : List WrongTold → Type 0
-ToldShutOut [] = Unit {0}
-ToldShutOut (w ∷ ws) = (¬ Tells (w .gives) (w .leaves) (w .call)) × ToldShutOut ws
+-- a wrong struct, with the buffers, is what its call does
+abbrev pub Told : WrongTold → Type 0
+Told w = Tells (w .gives) (w .leaves) (w .call)
 
 abbrev three : Answer → List ℕ
 three a = a .number ∷ a .place ∷ a .sites ∷ []
@@ -57,17 +57,13 @@ either : (a b : Bool) {X Y : Type 0} → (a ≡ true → ¬ X) → (b ≡ true �
 either true b f g h p = f refl (p .0)
 either false b f g h p = g h (p .1)
 
-each : (ws : List WrongTold) → map unlike-told ws ≡ map (λ (w : WrongTold). true) ws → ToldShutOut ws
-unfolding ToldShutOut
-each [] h = tt
-each (w ∷ ws) h = (
-  either _ _ (told-apart three (w .gives) (told (does (w .call) .answer))) (told-apart joined (w .leaves) (does (w .call) .lent)) (ap (λ (l : List Bool). getD l 0 false) h),
-  each ws (ap (drop 1) h),
-)
+tells : (w : WrongTold) → unlike-told w ≡ true → ¬ Told w
+tells w =
+    either _ _ (told-apart three (w .gives) (told (does (w .call) .answer))) (told-apart joined (w .leaves) (does (w .call) .lent))
 
-pub tolds-shut-out : ToldShutOut wrong-tolds
-unfolding is if-own dealing ands owned value-gate value-inputs values if-deals ins-routes gates-routes routes pick mul-parts gate-parts ins-parts parts objecting copies delivered in-wire delivered3 mix gate-wire gate-delivered six opened first ins-after after ins-delivered gates-delivered output out-delivered objects stop opens-delivered made transcript opened-at outputs tape-length draws ins-tape tape at-input at-gate at-output errors side store fill own-ins seen-outs view-from next-shares shift retape new-tapes input-adds gate-adds output-adds sum entry traffic-table add-row add-up le16 le32 size owner-at kind-at first-at second-at output-at site-of gate-of bit byte plain-gate plain-inputs plain-values plain tested row-owner good-gate row-gate-of row-output fault verdict digits decimal out-lines good-text refused-text ran-of both-plain-of work-room-of settle does CheckOf TrafficOf RunOf ViewOf PlainOf RetapeOf Listing Open GateAt OwnerAt OutputAt unlike-lists joined sites-of number-of place-of
-tolds-shut-out = each wrong-tolds refl
+pub tolds-shut-out : NoneOf Told wrong-tolds
+unfolding is if-own dealing ands owned value-gate value-inputs values if-deals ins-routes gates-routes routes pick mul-parts gate-parts ins-parts parts objecting copies delivered in-wire delivered3 mix gate-wire gate-delivered six opened first ins-after after ins-delivered gates-delivered output out-delivered objects stop opens-delivered made transcript opened-at outputs tape-length draws ins-tape tape at-input at-gate at-output errors side store fill own-ins seen-outs view-from next-shares shift retape new-tapes input-adds gate-adds output-adds sum entry traffic-table add-row add-up le16 le32 size owner-at kind-at first-at second-at output-at site-of gate-of bit byte plain-gate plain-inputs plain-values plain tested row-owner good-gate row-gate-of row-output fault verdict digits decimal out-lines good-text ran-of both-plain-of work-room-of settle does CheckOf TrafficOf RunOf ViewOf PlainOf RetapeOf Listing Open GateAt OwnerAt OutputAt unlike-lists joined sites-of number-of place-of
+tolds-shut-out = none-by Told unlike-told tells wrong-tolds refl
 
 -- "Open and check answer the number of outputs where the gates belong."
 -- door_answers: `gates: c.gates,` → `gates: c.outputs,`
@@ -80,6 +76,15 @@ counts-exchanged = told-apart (λ (z : CountsAnswer). z .gates ∷ []) _ _ refl
 pub counts-refusal : ¬ (record { number = 0; place = 5; inputs = 0; gates = 0; outputs = 0 } ≡ told-counts (does (Check (K-with 0 2)) .answer))
 unfolding first le16 le32 size owner-at kind-at first-at second-at output-at gate-of site-of dealing ands owned is tested row-owner good-gate row-gate-of row-output fault verdict settle does Open GateAt OwnerAt OutputAt CheckOf number-of place-of value-of unlike-lists
 counts-refusal = told-apart (λ (z : CountsAnswer). z .number ∷ []) _ _ refl
+
+-- the same two of the other call each
+pub check-exchanged : ¬ (record { number = 0; place = 0; inputs = 2; gates = 2; outputs = 2 } ≡ told-counts (does (Check two-outputs) .answer))
+unfolding first le16 le32 size owner-at kind-at first-at second-at output-at gate-of site-of dealing ands owned is tested row-owner good-gate row-gate-of row-output fault verdict settle does Open GateAt OwnerAt OutputAt CheckOf number-of place-of value-of unlike-lists
+check-exchanged = told-apart (λ (z : CountsAnswer). z .gates ∷ []) _ _ refl
+
+pub open-refusal : ¬ (record { number = 0; place = 3; inputs = 0; gates = 0; outputs = 0 } ≡ told-counts (does (Open (K-file ++ (0 ∷ []))) .answer))
+unfolding first le16 le32 size owner-at kind-at first-at second-at output-at gate-of site-of dealing ands owned is tested row-owner good-gate row-gate-of row-output fault verdict settle does Open GateAt OwnerAt OutputAt CheckOf number-of place-of value-of unlike-lists
+open-refusal = told-apart (λ (z : CountsAnswer). z .number ∷ []) _ _ refl
 
 -- "A gate goes out with its operands exchanged."
 -- door_answers: `Gate::Is(kind, first, second)` → `Gate::Is(kind, second, first)`
@@ -123,11 +128,17 @@ pub traffic-numbers : ¬ (record { number = 0; place = 5; bits = 0 ∷ 0 ∷ 0 �
 unfolding first le16 le32 size owner-at kind-at first-at second-at output-at gate-of site-of dealing ands owned is tested row-owner good-gate row-gate-of row-output fault verdict settle does Open GateAt OwnerAt OutputAt CheckOf number-of place-of value-of unlike-lists TrafficOf input-adds gate-adds output-adds sum entry traffic-table
 traffic-numbers = told-apart (λ (z : TrafficAnswer). z .number ∷ []) _ _ refl
 
--- "A buffer that is too short for a listing goes unnoticed, and the text with it."
--- door_replies: `number: 10,` → `number: 0,`
-pub listing-unfit : ¬ (record { number = 0; place = 0; length = 0 } ≡ told-listing [] (does (Listing K-job)))
-unfolding is if-own dealing ands owned value-gate value-inputs values if-deals ins-routes gates-routes routes pick mul-parts gate-parts ins-parts parts objecting copies delivered in-wire delivered3 mix gate-wire gate-delivered six opened first ins-after after ins-delivered gates-delivered output out-delivered objects stop opens-delivered made transcript opened-at outputs tape-length draws ins-tape tape at-input at-gate at-output errors side store fill own-ins seen-outs view-from next-shares shift retape new-tapes input-adds gate-adds output-adds sum entry traffic-table add-row add-up le16 le32 size owner-at kind-at first-at second-at output-at site-of gate-of bit byte plain-gate plain-inputs plain-values plain tested row-owner good-gate row-gate-of row-output fault verdict digits decimal out-lines good-text refused-text ran-of both-plain-of work-room-of settle does CheckOf TrafficOf RunOf ViewOf PlainOf RetapeOf Listing Open GateAt OwnerAt OutputAt unlike-lists joined sites-of number-of place-of told-listing unfit
-listing-unfit = told-apart (λ (z : ListingAnswer). z .number ∷ []) _ _ refl
+-- A buffer that is too short for a listing goes unnoticed.
+-- listing: `return Listed::Refused(10, 0);` → `return Listed::Good(0);`
+pub listing-unfit : ¬ TellsText (record { number = 0; place = 0; length = 0 }) ([] ∷ []) (Listing K-job [])
+unfolding is if-own dealing ands owned value-gate value-inputs values if-deals ins-routes gates-routes routes pick mul-parts gate-parts ins-parts parts objecting copies delivered in-wire delivered3 mix gate-wire gate-delivered six opened first ins-after after ins-delivered gates-delivered output out-delivered objects stop opens-delivered made transcript opened-at outputs tape-length draws ins-tape tape at-input at-gate at-output errors side store fill own-ins seen-outs view-from next-shares shift retape new-tapes input-adds gate-adds output-adds sum entry traffic-table add-row add-up le16 le32 size owner-at kind-at first-at second-at output-at site-of gate-of bit byte plain-gate plain-inputs plain-values plain tested row-owner good-gate row-gate-of row-output fault verdict digits decimal out-lines good-text ran-of both-plain-of work-room-of settle does CheckOf TrafficOf RunOf ViewOf PlainOf RetapeOf Listing Open GateAt OwnerAt OutputAt unlike-lists joined sites-of number-of place-of
+listing-unfit h = told-apart (λ (z : ListingAnswer). z .number ∷ []) _ _ refl (h .0)
+
+-- A refused listing goes out with the length of a text.
+-- door_replies: `length: 0,` → `length: place,`
+pub listing-length : ¬ TellsText (record { number = 14; place = 4; length = 4 }) (untouched 2624 ∷ []) (Listing (set K-job 4 17) (untouched 2624))
+unfolding is if-own dealing ands owned value-gate value-inputs values if-deals ins-routes gates-routes routes pick mul-parts gate-parts ins-parts parts objecting copies delivered in-wire delivered3 mix gate-wire gate-delivered six opened first ins-after after ins-delivered gates-delivered output out-delivered objects stop opens-delivered made transcript opened-at outputs tape-length draws ins-tape tape at-input at-gate at-output errors side store fill own-ins seen-outs view-from next-shares shift retape new-tapes input-adds gate-adds output-adds sum entry traffic-table add-row add-up le16 le32 size owner-at kind-at first-at second-at output-at site-of gate-of bit byte plain-gate plain-inputs plain-values plain tested row-owner good-gate row-gate-of row-output fault verdict digits decimal out-lines good-text ran-of both-plain-of work-room-of settle does CheckOf TrafficOf RunOf ViewOf PlainOf RetapeOf Listing Open GateAt OwnerAt OutputAt unlike-lists joined sites-of number-of place-of value-of
+listing-length h = told-apart (λ (z : ListingAnswer). z .length ∷ []) _ _ refl (h .0)
 
 -- "The line is sized for one copy of each opened part."
 -- door_answers: `12 * a + 6 * c.outputs` → `12 * a + 3 * c.outputs`

@@ -1,4 +1,5 @@
 pub mod Promise
+pub mod PromiseForC
 pub mod Right
 pub mod ShutOut
 pub mod RetapingShutOut

@@ -66,7 +66,7 @@ right-order _ (is-plain f x vs) = refl
 right-order _ (is-run f x t l outs tr st) = refl
 right-order _ (is-view f x t s v st) = refl
 right-order _ (is-retape f x t y s nt wr) = refl
-right-order _ (is-listing j) = refl
+right-order _ (is-listing j b) = refl
 
 -- K's circuit asked for site 4 with empty buffers, and for site 3 with no second inputs and empty buffers: the number that is promised
 promised : (number-of (does (View K-file (1 ∷ 1 ∷ []) K-tapes 4 [] []) .answer) ≡ 11)

@@ -65,8 +65,21 @@ retape-back = record {
   leaves = (0 ∷ 0 ∷ 1 ∷ 1 ∷ 0 ∷ 1 ∷ 0 ∷ 1 ∷ 1 ∷ 0 ∷ []) ∷ (0 ∷ 1 ∷ 0 ∷ 1 ∷ 0 ∷ 0 ∷ 0 ∷ 1 ∷ 0 ∷ 1 ∷ 0 ∷ 0 ∷ []) ∷ [];
 }
 
+-- A refusal of plain values, view or re-taping goes out as a place and a number: of each of them.
+-- door_replies: `Done::Refused(number, place) => door_answers::refused_told(number, place)` → `Done::Refused(number, place) => door_answers::refused_told(place, number)`
+abbrev pub plain-refusal : WrongTold
+plain-refusal = record { call = Plain K-file (1 ∷ 2 ∷ []) (untouched 3); gives = answer 1 7 0; leaves = untouched 3 ∷ [] }
+
+abbrev pub view-refusal : WrongTold
+view-refusal = record { call = View K-file (1 ∷ 1 ∷ []) K-tapes 4 (untouched 13) (untouched 18); gives = answer 0 11 0; leaves = untouched 13 ∷ untouched 18 ∷ [] }
+
+abbrev pub retape-refusal : WrongTold
+retape-refusal = record { call = K-retape 3 (1 ∷ 1 ∷ []) (1 ∷ 0 ∷ []); gives = answer 2 13 0; leaves = does (K-retape 3 (1 ∷ 1 ∷ []) (1 ∷ 0 ∷ [])) .lent }
+
 abbrev pub wrong-tolds : List WrongTold
-wrong-tolds = abort-as-refusal ∷ abort-place-sites ∷ run-abort ∷ plain-file ∷ run-buffers ∷ run-tapes-line ∷ view-site ∷ retape-back ∷ []
+wrong-tolds =
+    abort-as-refusal ∷ abort-place-sites ∷ run-abort ∷ plain-file ∷ run-buffers ∷ run-tapes-line ∷ view-site ∷ retape-back ∷ plain-refusal ∷ view-refusal
+    ∷ retape-refusal ∷ []
 
 -- "The line is sized for one copy of each opened part."
 abbrev pub small-line : SizesAnswer

@@ -8,7 +8,7 @@ use mathlib.Core.List.{List, [], _∷_, _++_}
 use Prim.Native.Nat.{ℕ}
 use lib.ListN.{take, drop, set}
 use Rattle.theory_calls.specs.Answer.{good, refused, After}
-use Rattle.theory_calls.specs.Listing.{refused-text}
+use Rattle.theory_sharing.specs.Store.{fill}
 use Rattle.theory_calls.specs.Calls.{Call, Open, GateAt, OwnerAt, OutputAt, Plain, Traffic, Listing}
 use Rattle.theory_demands.specs.Marked.{K-file, K-with, K-job, untouched, stopped-with, good-with, good-returns}
 
@@ -142,27 +142,27 @@ made-up-entry = record {
 }
 
 -- The circuit is read from where the inputs stand, and the inputs from where the circuit does.
--- listing: `list(&job[16..i], &job[i..t], &job[t..], room)` → `list(&job[i..t], &job[16..i], &job[t..], room)`
+-- listing: `list(&job[16..i], &job[i..t], &job[t..], text)` → `list(&job[i..t], &job[16..i], &job[t..], text)`
 abbrev pub circuit-and-inputs-exchanged : Wrong
 circuit-and-inputs-exchanged = record {
-  call = Listing K-job;
-  gives = record { answer = refused 1 0; returned = refused-text 1 0 ∷ []; lent = [] };
+  call = Listing K-job (untouched 2624);
+  gives = stopped-with (refused 1 0) (untouched 2624 ∷ []);
 }
 
 -- A refused job's number and place change places.
--- listing: `return refuse(room, 14, p);` → `return refuse(room, p, 14);`
+-- listing: `return Listed::Refused(14, p);` → `return Listed::Refused(p, 14);`
 abbrev pub number-and-place-exchanged : Wrong
 number-and-place-exchanged = record {
-  call = Listing (set K-job 4 17);
-  gives = record { answer = refused 4 14; returned = refused-text 4 14 ∷ []; lent = [] };
+  call = Listing (set K-job 4 17) (untouched 2624);
+  gives = stopped-with (refused 4 14) (untouched 2624 ∷ []);
 }
 
 -- The last line is not ended: its LF is left out.
 -- listing_text: `b"end\n"` → `b"end"`
 abbrev pub end-without-line-end : Wrong
 end-without-line-end = record {
-  call = Listing K-job;
-  gives = good-returns ((
+  call = Listing K-job (untouched 2624);
+  gives = stopped-with (good (46 ∷ [])) (fill (untouched 2624) (
       -- inputs 2 gates 1 outputs 1
       105 ∷ 110 ∷ 112 ∷ 117 ∷ 116 ∷ 115 ∷ 32 ∷ 50 ∷ 32 ∷ 103 ∷ 97 ∷ 116 ∷ 101 ∷ 115 ∷ 32 ∷ 49 ∷ 32 ∷ 111 ∷ 117 ∷ 116 ∷ 112 ∷ 117 ∷ 116 ∷ 115 ∷ 32 ∷ 49 ∷ 10
       -- bits 23

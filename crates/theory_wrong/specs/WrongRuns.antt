@@ -127,7 +127,7 @@ opened-bit-missed = record {
 }
 
 -- An input of another site that differs is refused.
--- retape_differs: `(o == 1) & !(inputs[k] == second[k])` → `(o <= 1) & !(inputs[k] == second[k])`
+-- retape_differs: `if o == 1 {` → `if o <= 1 {`
 abbrev pub refused-where-tapes-exist : Wrong
 refused-where-tapes-exist = record {
   call = K-retape 3 (1 ∷ 0 ∷ []) (0 ∷ 1 ∷ []);

@@ -33,17 +33,17 @@ fn answer(which: usize, number: usize, file: &[u8], counts: &[u8; 12]) {
 
 fn gate(file: &[u8], i: usize, g: usize, o: usize, k: usize) {
     print::word(b"gate_read");
-    gate_told(file_claimed::gate_checked(file, i, g, o, k));
+    gate_told(file_claimed::gate_claimed(file, i, g, o, k));
 }
 
 fn owner(file: &[u8], i: usize, g: usize, o: usize, k: usize) {
     print::word(b"owner_read");
-    owner_told(file_claimed::owner_checked(file, i, g, o, k));
+    owner_told(file_claimed::owner_claimed(file, i, g, o, k));
 }
 
 fn output(file: &[u8], i: usize, g: usize, o: usize, k: usize) {
     print::word(b"output_read");
-    output_told(file_claimed::output_checked(file, i, g, o, k));
+    output_told(file_claimed::output_claimed(file, i, g, o, k));
 }
 
 // What a question answers, of a file or of a reader.

@@ -1,10 +1,11 @@
 use borrow.Author.Needs.{needs}
+use Rattle.door_answers.specs.Told.{told}
 use Rattle.door_answers.proofs.Apart.{tells-by}
 use Rattle.door_runs.proofs.retape_for_c.Statement.{statement}
 use Rattle.door_runs.proofs.retape_for_c.Tie as tie
 
 returns : tie.Need-returns
-returns c = tells-by _ _ _ (c .done-told .ensures) (c .before .before .before .before .before .retape .ensures)
+returns c = tells-by told _ _ _ (c .done-told .ensures) (c .before .before .before .before .before .retape .ensures)
 
 pub retape-for-c-spec : {M : Type 1} → statement M
 retape-for-c-spec =

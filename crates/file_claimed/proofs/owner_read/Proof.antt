@@ -4,15 +4,14 @@ use contract.Running.{givenOf, tables, tablesOf}
 use denote.Enum.Laws as EL
 use denote.Triple.Spec.{tripleOf}
 use denote.Triple.Table.{entered, cited}
-use Rattle.theory_calls.specs.Calls.{OwnerAt, answers}
+use Rattle.theory_calls.specs.Calls.{OwnerAt, answers, does}
 use Rattle.file_parts.specs.Answers.{owner-answer}
-use Rattle.file_claimed.specs.Reader.{read-as}
 use Rattle.file_parts.proofs.Owner as S
 use Rattle.file_parts.proofs.Owner.Laws as S′
-use Rattle.file_claimed.proofs.owner_checked as step
-use Rattle.file_claimed.proofs.owner_checked.Symbol as step-def
-use Rattle.file_claimed.proofs.owner_checked.Symbol.{name as #file-claimed·owner-checked}
-use Rattle.file_claimed.proofs.owner_checked.Met as step-thm
+use Rattle.file_claimed.proofs.owner_claimed as step
+use Rattle.file_claimed.proofs.owner_claimed.Symbol as step-def
+use Rattle.file_claimed.proofs.owner_claimed.Symbol.{name as #file-claimed·owner-claimed}
+use Rattle.file_claimed.proofs.owner_claimed.Met as step-thm
 use Rattle.file_reader.proofs.Apart.{free, meets}
 use Rattle.file_claimed.proofs.owner_read.Key.{name as #file-claimed·owner-read}
 use Rattle.file_claimed.proofs.owner_read as thin
@@ -24,5 +23,5 @@ unfolding code.routine tablesOf
 owner-read-spec 𝓤 H 𝓜 𝓖 𝓡 =
     entered 𝓤 H (tripleOf 𝓤 H (𝓖 .A) thin.signature (thin.spec 𝓤 H (𝓖 .A) (𝓜 .mem) (𝓡 .run)))
     (tables 𝓤 H 𝓜 𝓡 code.env .C) (tables 𝓤 H 𝓜 𝓡 code.env .Λ) #file-claimed·owner-read code.function (code.unfolded 𝓤 H 𝓜 𝓡)
-    (meets S.the-row S′.mir #file-claimed·owner-checked free (λ s c k r. answers (owner-answer r) ≡ read-as c s (λ f. OwnerAt f k)) (λ r u is. EL.lawful S.the-type S′.the-laws 𝓤 H (𝓖 .A) (givenOf 𝓤 H 𝓜 𝓖) tt .typed r _ is .0) 𝓤 H (𝓖 .A) (givenOf 𝓤 H 𝓜 𝓖) (tablesOf 𝓤 H 𝓜 (tables 𝓤 H 𝓜 𝓡 code.env))
-    (cited 𝓤 H (tripleOf 𝓤 H (𝓖 .A) step.signature (step.spec 𝓤 H (𝓖 .A) (𝓜 .mem) (𝓡 .run))) 𝓜 𝓡 code.env #file-claimed·owner-checked step-def.routine code.calls-file-claimed·owner-checked (step-thm.met 𝓤 H 𝓜 𝓖 𝓡)))
+    (meets S.the-row S′.mir #file-claimed·owner-claimed free (λ s c k r. answers (owner-answer r) ≡ does (OwnerAt s k)) (λ r u is. EL.lawful S.the-type S′.the-laws 𝓤 H (𝓖 .A) (givenOf 𝓤 H 𝓜 𝓖) tt .typed r _ is .0) 𝓤 H (𝓖 .A) (givenOf 𝓤 H 𝓜 𝓖) (tablesOf 𝓤 H 𝓜 (tables 𝓤 H 𝓜 𝓡 code.env))
+    (cited 𝓤 H (tripleOf 𝓤 H (𝓖 .A) step.signature (step.spec 𝓤 H (𝓖 .A) (𝓜 .mem) (𝓡 .run))) 𝓜 𝓡 code.env #file-claimed·owner-claimed step-def.routine code.calls-file-claimed·owner-claimed (step-thm.met 𝓤 H 𝓜 𝓖 𝓡)))

@@ -1,5 +1,4 @@
 use borrow.Author.Needs.{needs}
-use mathlib.Core.Path.{_∙_}
 use Rattle.check_circuit.proofs.FrontLaws.{checked-from}
 use Rattle.listing.proofs.PartLaws.{circuit-told}
 use Rattle.listing.proofs.list.Statement.{statement}
@@ -7,11 +6,11 @@ use Rattle.listing.proofs.list.Tie as tie
 
 returns : tie.Need-returns
 returns c =
-    let a = c .before .before .before .before .before .before .before .before .before .before .before .args in let r = c .before .before .refuse-header .ensures in
-    (r .0 ∙ circuit-told (a .file .now) (a .inputs .now) (a .tapes .now) _ (c .before .before .before .before .before .before .check-file .ensures .0) _ _ (c .before .before .before .before .enum-told .given .1), r .1)
+    let a = c .before .before .before .before .before .before .before .before .args in
+    circuit-told (a .file .now) (a .inputs .now) (a .tapes .now) (a .text .now) _ (c .before .before .before .check-file .ensures .0) _ _ (c .before .enum-told .given .1) _ (c .refused .ensures)
 
 list-opened-requires : tie.Need-list-opened-requires
-list-opened-requires c κs = (checked-from _ _ _ (c .before .before .h .given .1) (c .before .before .before .before .check-file .ensures .1), c .before .before .before .before .before .before .before .before .before .pre)
+list-opened-requires c κs = checked-from _ _ _ (c .before .before .h .given .1) (c .before .before .before .before .check-file .ensures .1)
 
 pub list-spec : {M : Type 1} → statement M
 list-spec =
@@ -21,7 +20,6 @@ list-spec =
     (λ c. search needs)
     (λ c. search needs)
     (λ c κs. search needs)
-    (λ c. search needs)
     returns
     list-opened-requires
     (λ c. search needs)

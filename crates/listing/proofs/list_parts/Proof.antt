@@ -12,7 +12,7 @@ returns : tie.Need-returns
 returns c =
     let a = c .before .before .before .before .before .before .before .before .before .args in
     let j : List ℕ = a .job .now in
-    (c .before .before .list .ensures .0 ∙ ap (λ (l : List ℕ). says (take (a .i - 16) (drop 16 j)) (take (a .t - a .i) (drop (a .i) j)) l) (to-the-end (a .t) j), c .before .before .list .ensures .1)
+    c .before .before .list .ensures ∙ ap (λ (l : List ℕ). says (take (a .i - 16) (drop 16 j)) (take (a .t - a .i) (drop (a .i) j)) l (a .text .now)) (to-the-end (a .t) j)
 
 pub list-parts-spec : {M : Type 1} → statement M
 list-parts-spec =

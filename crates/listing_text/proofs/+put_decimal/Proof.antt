@@ -1,7 +1,8 @@
 -- A function that calls itself: each need is stated with the measure, which is the toolchain's form, and proved in a line.
 use borrow.Author.Needs.{needs}
 use native.Mathlib.Omega.{arith}
-use Rattle.listing_text.proofs.DigitLaws.{one-digit, more-digits, put-small, put-more}
+use Rattle.theory_calls.proofs.Digits.{one-digit, more-digits}
+use Rattle.listing_text.proofs.DigitLaws.{put-small, put-more}
 use Prim.Native.Nat.{ℕ, _<_}
 use borrow.Fn.Kinds.{In}
 use borrow.Fn.PlainCycle.{Measures, is, falls, and}
@@ -22,11 +23,11 @@ abbrev put-decimal-below : ℕ → In 1 put-decimal-kinds.ps
 put-decimal-below t =
     and 1 put-decimal-kinds.ps (falls 1 put-decimal-kinds.ps _<_ μ-put-decimal t) put-decimal.Pre
 
-put-decimal-slice-write-room : (t : ℕ) → put-decimal-lts.Need-slice-write-room (
+put-decimal-slice-write-text : (t : ℕ) → put-decimal-lts.Need-slice-write-text (
   put-decimal-below t,
   put-decimal.Post,
 ) (put-decimal-at t) put-decimal.Post
-put-decimal-slice-write-room t c = let l = one-digit _ (c .if1 .taken) in omega arith
+put-decimal-slice-write-text t c = let l = one-digit _ (c .if1 .taken) in omega arith
 
 put-decimal-add-result : (t : ℕ) → put-decimal-lts.Need-add-result (
   put-decimal-below t,
@@ -46,11 +47,11 @@ put-decimal-put-decimal-requires : (t : ℕ) → put-decimal-lts.Need-put-decima
 ) (put-decimal-at t) put-decimal.Post
 put-decimal-put-decimal-requires t c κs = let l = more-digits _ (c .before .if1 .left) in omega arith
 
-put-decimal-slice-write-room-2 : (t : ℕ) → put-decimal-lts.Need-slice-write-room-2 (
+put-decimal-slice-write-text-2 : (t : ℕ) → put-decimal-lts.Need-slice-write-text-2 (
   put-decimal-below t,
   put-decimal.Post,
 ) (put-decimal-at t) put-decimal.Post
-put-decimal-slice-write-room-2 t c = let l = more-digits _ (c .before .before .before .before .if1 .left) in omega arith
+put-decimal-slice-write-text-2 t c = let l = more-digits _ (c .before .before .before .before .if1 .left) in omega arith
 
 put-decimal-add-result-2 : (t : ℕ) → put-decimal-lts.Need-add-result-2 (
   put-decimal-below t,
@@ -73,14 +74,14 @@ pub +put-decimal-spec : {M : Type 1} → statement M
     put-decimal.Post
     (λ c. search needs)
     (λ c. search needs)
-    (put-decimal-slice-write-room t)
+    (put-decimal-slice-write-text t)
     (put-decimal-add-result t)
     (λ c. search needs)
     (put-decimal-returns t)
     (put-decimal-put-decimal-requires t)
     (λ c. search needs)
     (λ c. search needs)
-    (put-decimal-slice-write-room-2 t)
+    (put-decimal-slice-write-text-2 t)
     (put-decimal-add-result-2 t)
     (λ c. search needs)
     (put-decimal-returns-2 t)

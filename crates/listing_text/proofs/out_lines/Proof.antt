@@ -11,10 +11,10 @@ use Rattle.listing_text.proofs.out_lines.Statement.{statement}
 use Rattle.listing_text.proofs.out_lines.Tie as tie
 
 abbrev Inv-loop : tie.InvT-loop
-Inv-loop room₀ at outs n e₀ o₀ room e o = (o ≤ n) × Put at (out-lines (shown-of outs) o) room₀ room e × (length room ≡ length room₀)
+Inv-loop text₀ at outs n e₀ o₀ text e o = (o ≤ n) × Put at (out-lines (shown-of outs) o) text₀ text e × (length text ≡ length text₀)
 
 abbrev μ-loop : tie.MeasureT-loop
-μ-loop room₀ at outs n e₀ o₀ room e o = n - o
+μ-loop text₀ at outs n e₀ o₀ text e o = n - o
 
 loop-holds : tie.Need-loop-holds Inv-loop μ-loop
 loop-holds c = (search needs, lines-none (c .before .before .args .outs .now) _ _, refl)

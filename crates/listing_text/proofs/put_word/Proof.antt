@@ -8,10 +8,10 @@ use Rattle.listing_text.proofs.put_word.Statement.{statement}
 use Rattle.listing_text.proofs.put_word.Tie as tie
 
 abbrev Inv-loop : tie.InvT-loop
-Inv-loop room₀ at word k₀ room k = (k ≤ length word) × (room ≡ write at (take k word) room₀) × (length room ≡ length room₀)
+Inv-loop text₀ at word k₀ text k = (k ≤ length word) × (text ≡ write at (take k word) text₀) × (length text ≡ length text₀)
 
 abbrev μ-loop : tie.MeasureT-loop
-μ-loop room₀ at word k₀ room k = length word - k
+μ-loop text₀ at word k₀ text k = length word - k
 
 loop-holds : tie.Need-loop-holds Inv-loop μ-loop
 loop-holds c = (search needs, sym (write-none _ _), refl)

@@ -360,8 +360,8 @@ pub fn traffic(file: &[u8]) -> Answer<Traffic> {
     told(a.number, a.place, 0, a.bits)
 }
 
-/// The listing of a job, and how many bytes of the lent buffer are its text: a refused job has one too.
-pub fn listing(job: &[u8], text: &mut [u8; TEXT_BYTES]) -> (Answer, usize) {
+/// The listing of a job: how many bytes in front in the lent buffer are its text. A refusal leaves the buffer as it was.
+pub fn listing(job: &[u8], text: &mut [u8; TEXT_BYTES]) -> Answer<usize> {
     let a = unsafe { c::bakebutton_listing(job.as_ptr(), job.len(), text.as_mut_ptr(), text.len()) };
-    (told(a.number, a.place, 0, ()), a.length)
+    told(a.number, a.place, 0, a.length)
 }

@@ -1,2 +1,0 @@
-pub mod ClaimedOne
-pub mod CountedLaws

@@ -1,2 +1,0 @@
-pub mod Mirror
-pub mod Reader
