@@ -164,10 +164,12 @@ def over_reader():
                 within = line
             elif line.startswith("}"):
                 within = ""
-            found = FUNCTION.match(line)
+            found = FUNCTION.match(line) or (re.match(r"\s+fn (\w+)", line) if re.search(r"\bReader\b", within) else None)
             asked = head(lines, number).split("->")[0] if found else ""
-            if re.search(r"\(.*\bReader\b.*\)", asked, re.S) or ("Reader" in within and re.search(r"\(.*\bself\b", asked, re.S)):
+            if re.search(r"\(.*\bReader\b.*\)", asked, re.S) or (re.search(r"\bReader\b", within) and re.search(r"\(.*\bself\b", asked, re.S)):
                 yield path, found.group(1), head(lines, number)
+            if re.search(r"\bReader\s+as\b", line):
+                yield path, "an import of Reader under another name", "requires"
 
 
 def public_section():
@@ -194,9 +196,10 @@ def public_problems():
         yield f"{path}: {name} is " + ("not in docs/STATEMENTS.md's tables of public calls" if (name, path) in seen else "in docs/STATEMENTS.md's tables of public calls, and none")
     if not seen:
         yield "no public call is seen"
-    pins = "".join((ROOT / "crates" / "theory_wrong" / "proofs" / file).read_text() for file in ("Promise.antt", "PromiseForC.antt"))
+    pins = [(ROOT / "crates" / "theory_wrong" / "proofs" / file).read_text() for file in ("Promise.antt", "PromiseForC.antt")]
     for name, path in sorted(seen):
-        if not re.search(rf"^use Rattle\.{path.split('/')[1]}\.proofs\.{name}(?:\.Reads)? as ", pins, re.M):
+        used = rf"^use Rattle\.{path.split('/')[1]}\.proofs\.{name}(?:\.Reads)? as (\w+)$"
+        if not any(re.search(rf"^\s+→ {alias}\.(?:Learnt|clauses) ", text, re.M) for text in pins for alias in re.findall(used, text, re.M)):
             yield f"{path}: the contract of {name} is not pinned in crates/theory_wrong/proofs"
     for path, name in unmarked():
         yield f"{path}: {name} is exported and not marked PUBLIC"
@@ -243,6 +246,14 @@ def answer_problems():
                 source = source.replace(old, new)
     if not seen:
         yield "no wrong answer is seen"
+    text = "".join(path.read_text() for path in sorted((ROOT / "crates" / "theory_wrong").glob("*/*.antt")))
+    rows = re.findall(r"^((?:--.*\n)*)(?:abbrev )?pub (\S+) : (Wrong|WrongTold|¬.*)$", text, re.M)
+    members = set(re.findall(r"[\w-]+", " ".join(re.findall(r"^wrong-(?:reads|runs|tolds) =((?:.|\n +)*)", text, re.M))))
+    for above, name, kind in rows:
+        if not kind.startswith("¬") and name not in members:
+            yield f"crates/theory_wrong: the wrong answer {name} is in no list, so that no theorem speaks of it"
+        if (not kind.startswith("¬") or "told-" in kind) and not CHANGED.search(above):
+            yield f"crates/theory_wrong: the wrong answer {name} does not say what is changed"
 
 
 def trial_problems():

@@ -62,6 +62,7 @@ def problems():
 FOLDERS = {path.name for path in ROOT.iterdir() if path.is_dir()} - {"target"}
 STANDS_FOR = ("*", "..", "NAME", "CRATE", "FOLDER")  # a place that stands for several
 QUOTED = re.compile(r"`([^`\s]+)`")
+CODE = re.compile(r"`([^`]*[^`\s][^`]*)`")
 BEHIND = re.compile(r"`(crates/[^`\s]+\.(?:rt|antt))`: ((?:`\w[\w-]*`(?:, (?=`))?)+)")
 FUNCTION = re.compile(r"^(\w+)::(\w+)$")
 
@@ -76,7 +77,7 @@ def citations(path):
     for target in re.findall(r"\]\(([^)#]+)\)", text):
         if "://" not in target and not (path.parent / target).exists():
             yield f"{target} is not there"
-    for quoted in QUOTED.findall(text):
+    for quoted in (whole.split()[0] for whole in CODE.findall(text)):
         if quoted.split("/")[0] in FOLDERS and "/" in quoted and not any(sign in quoted for sign in STANDS_FOR) and not (ROOT / quoted).exists():
             yield f"{quoted} is not there"
         function = FUNCTION.match(quoted)

@@ -12,6 +12,8 @@ import sys
 ROOT = pathlib.Path(__file__).resolve().parent.parent
 LOGS = ROOT / "target" / "must-fail"
 UNFIT = ("that can be named from here", "is not in scope", "has no field", "was not admitted", "is a declared record", "expected type `tie.Need-", "no occurrence of the path")
+# Not among them: "no equation of the list has an instance in the goal". The goal is then the fact, which lost what its proof rewrites by: a limit, a
+# comparison.
 UNPROVED = "it is not proved that"  # of a function without a proof file: nothing was found
 
 
@@ -31,6 +33,10 @@ def problems():
         log = LOGS / name / ".log"
         if not log.is_file():
             yield f"{name} was not tried: `rt must-fail` tries it"
+            continue
+        files = [edit, *(path for path in edit.parent.parent.rglob("*") if path.suffix in (".rt", ".antt"))]
+        if max(path.stat().st_mtime for path in files) > log.stat().st_mtime:
+            yield f"{name} was tried before its crate changed: `rt must-fail` tries it again"
             continue
         said = first_error(log.read_text())
         if not said or any(words in said for words in UNFIT):

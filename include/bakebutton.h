@@ -273,7 +273,7 @@ struct bakebutton_answer bakebutton_retape(const uint8_t *file, size_t file_leng
 /* BAKEBUTTON_TEXT_BYTES, for whoever cannot read it here. */
 size_t bakebutton_text_bytes(void) BAKEBUTTON_LOOK;
 
-/* A job (docs/FORMAT.md) has a circuit, inputs and tapes in one slice; its listing is the text that the program bakebutton prints.
+/* A job (docs/FORMAT.md) has a circuit, inputs and tapes in one slice; its listing is the text that tools/listing prints.
  * Lent: 0 text, of BAKEBUTTON_TEXT_BYTES; the first length bytes are the text, with no zero behind it, and the rest is as it was. Checks
  * 14, 1, 2, 3, 4, 5, 6, 7, 8, 10. At a refusal length is 0; the program's line for it is `refused N P`, number and place. */
 struct bakebutton_listing_answer bakebutton_listing(const uint8_t *job, size_t job_length, uint8_t *text, size_t text_length) BAKEBUTTON_LOOK;

@@ -1,4 +1,4 @@
--- What the inner functions of the checks compute. No public contract cites these: laws in proofs/ tie them to the calls of scope.
+-- What the inner functions of the checks compute. No public contract cites these: laws in proofs/ tie them to the calls of theory_calls.
 --     checked-of            checks 4 to 6, one after the other
 --     refusal-of            a circuit's refusal as the answer of a call behind it
 use mathlib.Core.Bool.{cond}

@@ -1,4 +1,4 @@
--- What the test of the limits computes. No public contract cites it: a law in header ties it to the calls of scope.
+-- What the test of the limits computes. No public contract cites it: a law in file_header ties it to the calls of theory_calls.
 --     large-place     "I, G or O too large, tested so | 0, 1 or 2"; 3 where none is
 --     Within          what 3 says
 use mathlib.Core.Bool.{cond}

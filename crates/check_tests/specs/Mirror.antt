@@ -1,4 +1,4 @@
--- What the tests compute. No public contract cites these: laws tie them to the calls of scope.
+-- What the tests compute. No public contract cites these: laws tie them to the calls of theory_calls.
 --     bad-owner, bad-gate, bad-output, above, wrong-size    the tests of 4, 5, 6, of 7, 8, 9, 12, and of 10
 --     job-place             14 on a job's length and numbers
 --     deals, site-no        1 for a kind that deals; the site that a number stands for

@@ -1,4 +1,4 @@
--- An answer as it goes out to C: numbers in a struct. The first is `number-of` of scope: 0 good, 100 abort, else the refusal's.
+-- An answer as it goes out to C: numbers in a struct. The first is `number-of` of theory_calls: 0 good, 100 abort, else the refusal's.
 --     sites-of, value-of                 what stands beside the number
 --     told                               the answer of plain values, run, view and re-taping
 --     TellsBy, Tells                     a struct that has the answer, with all lent buffers as they are afterwards, is what the call does; with told

@@ -1,5 +1,5 @@
 -- What the header's inner functions compute, test by test in the code's order. No public contract cites these: laws in proofs/ tie them to
--- the calls of scope.
+-- the calls of theory_calls.
 --     fields-judged, judged, header-of      the header's answer, from check 3 on, from 2 on, whole
 --     Fine                                  what a good one says of the numbers it was made of
 use mathlib.Core.Path.{_≡_}

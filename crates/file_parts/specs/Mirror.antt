@@ -1,5 +1,5 @@
 -- What the reader's inner functions compute, test by test in the code's order. No public contract cites these: laws in proofs/ tie them to
--- the calls of scope.
+-- the calls of theory_calls.
 --     gate-by, owner-by, output-by    the stored numbers, or 5, 4, 6 with the count
 --     gate-refusal, owner-refusal, output-refusal    a header's refusal as an answer
 use mathlib.Core.Bool.{cond}

@@ -1,5 +1,5 @@
 -- What holds of the listing's lines.
---     good-lines                                 scope's good-text is lines-of, by the circuit's numbers
+--     good-lines                                 theory_calls' good-text is lines-of, by the circuit's numbers
 --     line-length, counts-length, head-length    their lengths
 --     line-refused, line-out, lines-room, head-room    the room that is enough
 --     PutItem                                    a word with its number, written

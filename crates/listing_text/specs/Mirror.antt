@@ -2,7 +2,7 @@
 --     write at new l          l with new in it, from place at on
 --     line-of                 a word and two numbers: the line of a refusal, and the line of an output
 --     counts-of, head-of      the three counts; the first two lines
---     lines-of                scope's good-text, by its numbers (proofs/TextLaws: good-lines)
+--     lines-of                theory_calls' good-text, by its numbers (proofs/TextLaws: good-lines)
 --     shown-of, OneDigit      the bit shown for an output; that each takes one digit
 use mathlib.Core.List.{List, _++_}
 use Prim.Native.Nat.{ℕ, _+_, _*_, _≤_, _<_}

@@ -1,4 +1,4 @@
--- What the inner functions of plain values compute. No public contract cites these: laws in proofs/ tie them to scope's plain values.
+-- What the inner functions of plain values compute. No public contract cites these: laws in proofs/ tie them to theory_calls' plain values.
 --     kind-value           a gate's value by its kind's number, from two bytes
 --     inputs-on            values after the first k inputs
 --     gate-on, gates-on    values after gate k, and after the first k gates, of a file with i inputs

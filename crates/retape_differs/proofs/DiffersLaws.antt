@@ -1,4 +1,4 @@
--- 13, as the code goes through it, is scope's row.
+-- 13, as the code goes through it, is theory_calls' row.
 --     own-yes, own-no                     the test of an own input, and that of another site's
 --     own-place, opened-place, no-place   the place of 13, by the first of each test
 --     own-fault, opened-fault             which is the row's fault

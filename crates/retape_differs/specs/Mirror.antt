@@ -1,4 +1,4 @@
--- What the two tests of 13 compute. No public contract cites these: laws tie them to scope's row.
+-- What the two tests of 13 compute. No public contract cites these: laws tie them to theory_calls' row.
 --     own-differs        an input of the site that differs
 --     opened-differs     an output whose plain value differs, of a file with i inputs and g gates; both sets stand in a work room of n wires
 use mathlib.Core.Bool.{Bool, not, _&&_}

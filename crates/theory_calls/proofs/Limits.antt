@@ -2,7 +2,6 @@
 --     Limits, limits    I, G, O are within 01's limits, and the file has the length that they ask for: what passes 2 and 3
 --     small-file        "so a file has at most 20,000 bytes"
 --     small-line        line and transcript have "at most 42,496"
---     small-tapes       tapes have at most 20,480
 -- Assumes nothing.
 use mathlib.Core.Path.{_≡_, refl, _∙_}
 use mathlib.Core.Bool.{Bool, true, false, _&&_, _||_}
@@ -72,6 +71,3 @@ module _ (f : List ℕ) (l : Limits f) where
   small-line F =
       let a = l .few-inputs in let b = l .few-gates in let c = l .few-outputs in
       let d = ands-most (circuit-with F f .gate) (gates-of f) in omega arith
-
-  pub small-tapes : tapes-want (circuit f) ≤ 20480
-  small-tapes = let a = l .few-inputs in let b = l .few-gates in let d = ands-most (circuit f .gate) (gates-of f) in omega arith

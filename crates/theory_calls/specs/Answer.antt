@@ -8,7 +8,7 @@ use mathlib.Core.List.{List}
 use Prim.Native.Nat.{ℕ}
 
 pub data Answer : Type 0 where
-  good : List ℕ → Answer  -- what was asked for: counts, a gate's three numbers, an owner, a wire; nothing for the others
+  good : List ℕ → Answer  -- what was asked for: counts, a gate's three numbers, an owner, a wire, the length of a text; nothing for the others
   abort : ℕ → ℕ → Answer  -- "the output's number and the objecting sites"
   refused : ℕ → ℕ → Answer  -- "A refusal is a number and a place"
 
@@ -32,7 +32,7 @@ place-of (good vs) = 0
 place-of (abort o m) = o
 place-of (refused n p) = p
 
--- returned: of a traffic call the table's rows, of a listing its text, else nothing. lent: the result buffers, by number.
+-- returned: of a traffic call the table's rows, else nothing. lent: the result buffers, by number.
 pub record Left (A : Type 0) : Type 0 where
   pub answer : A
   pub returned : List (List ℕ)

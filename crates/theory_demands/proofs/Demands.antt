@@ -146,7 +146,7 @@ module _ (f x t l outs tr st : List ℕ) (accepted : Accepts (Run f x t l outs t
 
   -- 01: "The line is one byte per sent bit, xored onto it. The transcript is the delivered bits in this order.": route k is entry k of routes, and
   -- byte k is what its sender sends, from its own pair or its own deal, xored with byte k of the line; every byte of a good run, at an abort those
-  -- through that opening's six bits
+  -- through that opening's six bits. `sends` goes over the routes, step by step: by its definition its entry k is made for entry k of them
   pub each-delivered-bit-is-its-senders : (k : ℕ)
       → ((does the-run .answer ≡ good []) × (k < 4 * C .ins + 12 * all-ands C + 6 * C .outs))
       ⊎ ((p : ℕ) × (m : ℕ) × (does the-run .answer ≡ abort p m) × (k < 4 * C .ins + 12 * all-ands C + 6 * suc p))

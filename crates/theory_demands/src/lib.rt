@@ -1,1 +1,1 @@
-// Statements only: the three demands and the marked examples, about the whole calls of scope. Nothing here runs.
+// Statements only: the three demands and the marked examples, about the whole calls of theory_calls. Nothing here runs.

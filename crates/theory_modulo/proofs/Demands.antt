@@ -1,5 +1,5 @@
 -- Sentences of all three demands for numbers modulo m, by the laws that bits have them by. Below m l: what the type of a slice of such numbers
--- would say. What is not here is one line each from scope's Demand1.antt to Figures.antt.
+-- would say. What is not here is one line each from theory_calls' Demand1.antt to Figures.antt.
 -- Assumes nothing.
 use mathlib.Core.Path.{_≡_}
 use mathlib.Core.Logic.{_↔_}

@@ -1,5 +1,5 @@
 -- No wrong answer of specs/WrongReads.antt and specs/WrongRuns.antt meets the statement of its call, which is that what is left is what the call
--- does. Found by computing each call: one theorem over all rows.
+-- does (`traffic_of` says it in three equations, of the table, the number and the place). Found by computing each call: one theorem over all rows.
 --     NoneOf, none-by           something holds of none of a list; found by a test
 --     Met                       a wrong answer is what its call does
 --     wrong-answers-shut-out    of none in both lists

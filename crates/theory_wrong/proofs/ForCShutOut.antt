@@ -78,10 +78,12 @@ unfolding first le16 le32 size owner-at kind-at first-at second-at output-at gat
 counts-refusal = told-apart (λ (z : CountsAnswer). z .number ∷ []) _ _ refl
 
 -- the same two of the other call each
+-- door_answers: `gates: c.gates,` → `gates: c.outputs,`
 pub check-exchanged : ¬ (record { number = 0; place = 0; inputs = 2; gates = 2; outputs = 2 } ≡ told-counts (does (Check two-outputs) .answer))
 unfolding first le16 le32 size owner-at kind-at first-at second-at output-at gate-of site-of dealing ands owned is tested row-owner good-gate row-gate-of row-output fault verdict settle does Open GateAt OwnerAt OutputAt CheckOf number-of place-of value-of unlike-lists
 check-exchanged = told-apart (λ (z : CountsAnswer). z .gates ∷ []) _ _ refl
 
+-- door_answers: `Header::Refused(number, place)` → `Header::Refused(place, number)`
 pub open-refusal : ¬ (record { number = 0; place = 3; inputs = 0; gates = 0; outputs = 0 } ≡ told-counts (does (Open (K-file ++ (0 ∷ []))) .answer))
 unfolding first le16 le32 size owner-at kind-at first-at second-at output-at gate-of site-of dealing ands owned is tested row-owner good-gate row-gate-of row-output fault verdict settle does Open GateAt OwnerAt OutputAt CheckOf number-of place-of value-of unlike-lists
 open-refusal = told-apart (λ (z : CountsAnswer). z .number ∷ []) _ _ refl

@@ -70,9 +70,11 @@ retape-back = record {
 abbrev pub plain-refusal : WrongTold
 plain-refusal = record { call = Plain K-file (1 ∷ 2 ∷ []) (untouched 3); gives = answer 1 7 0; leaves = untouched 3 ∷ [] }
 
+-- door_replies: `Done::Refused(number, place) => door_answers::refused_told(number, place)` → `Done::Refused(number, place) => door_answers::refused_told(place, number)`
 abbrev pub view-refusal : WrongTold
 view-refusal = record { call = View K-file (1 ∷ 1 ∷ []) K-tapes 4 (untouched 13) (untouched 18); gives = answer 0 11 0; leaves = untouched 13 ∷ untouched 18 ∷ [] }
 
+-- door_replies: `Done::Refused(number, place) => door_answers::refused_told(number, place)` → `Done::Refused(number, place) => door_answers::refused_told(place, number)`
 abbrev pub retape-refusal : WrongTold
 retape-refusal = record { call = K-retape 3 (1 ∷ 1 ∷ []) (1 ∷ 0 ∷ []); gives = answer 2 13 0; leaves = does (K-retape 3 (1 ∷ 1 ∷ []) (1 ∷ 0 ∷ [])) .lent }
 

@@ -7,7 +7,7 @@ use lib.ListN.{replicate, set}
 use Rattle.theory_calls.specs.Answer.{abort, refused}
 use Rattle.theory_calls.specs.Calls.{Run, View}
 use Rattle.theory_demands.specs.Marked.{K-file, K-tapes, K-line, K-run, K-retape, K-store, untouched, stopped-with, good-with}
-use Rattle.theory_wrong.specs.WrongReads.{Wrong, gated, two-outputs}
+use Rattle.theory_wrong.specs.WrongReads.{Wrong, gated, owned-by, two-outputs}
 
 abbrev pub unlike-draws : List ℕ
 unlike-draws = 1 ∷ 0 ∷ 1 ∷ 1 ∷ 0 ∷ 1 ∷ 1 ∷ 0 ∷ 1 ∷ 0 ∷ []
@@ -64,8 +64,8 @@ not-at-one-holder = record {
 -- view: `return pos.t2;` → `return pos.t3;`
 abbrev pub another-sites-tape : Wrong
 another-sites-tape = record {
-  call = View K-file (1 ∷ 1 ∷ []) K-tapes 2 (untouched 14) (untouched 18);
-  gives = good-with ((1 ∷ 1 ∷ 0 ∷ 0 ∷ 0 ∷ 1 ∷ 0 ∷ 1 ∷ 1 ∷ 0 ∷ 1 ∷ 1 ∷ 1 ∷ 1 ∷ []) ∷ K-store ∷ []);
+  call = View (owned-by 1 3) (1 ∷ 1 ∷ []) unlike-draws 2 (untouched 13) (untouched 18);
+  gives = good-with ((1 ∷ 0 ∷ 1 ∷ 0 ∷ 0 ∷ 0 ∷ 1 ∷ 1 ∷ 0 ∷ 1 ∷ 1 ∷ 1 ∷ 1 ∷ []) ∷ K-store ∷ []);
 }
 
 -- The site is not looked at: a view of site 4 is given as site 3's.

@@ -33,6 +33,7 @@ pub trait Value {
 }
 
 impl Value for () {}
+impl Value for usize {}
 impl Value for Counts {}
 impl Value for Sizes {}
 impl Value for Traffic {}

@@ -77,6 +77,7 @@ fn hold_to_document(sizes: &Sizes) {
     let said = b"inputs 2 gates 1 outputs 1\nbits 23\nout 0 1\nend\n";
     assert_eq!(bakebutton::listing(&job, &mut text), Answer::Good(said.len()));
     assert_eq!(&text[..said.len()], said);
+    assert_eq!(bakebutton::listing(&job[..15], &mut text).to_string(), "refused 14 0: the job has under 16 or over 41,520 bytes, or is not as long as its first number says");
 }
 
 fn main() {
