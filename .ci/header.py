@@ -254,7 +254,7 @@ def problems():
             yield f"the comment on answers does not say {name.strip()}"
     if HEADER.count(f"number 1 to {count} ") != 1:
         yield f"the comment on answers does not say that refusals are 1 to {count}"
-    weights = [int(n) for n in re.findall(r"unlike\(g\.[^)]*, (\d)\)", source("crates/run_messages/src/lib.rt"))]
+    weights = [int(n) for n in re.findall(r"unlike\(g\.[^)]*, (\d)\)", source("crates/run_copies/src/lib.rt"))]
     shift = re.search(r"^#define BAKEBUTTON_SITE_WEIGHT\(site\) \(1u << \(\(site\) - 1\)\)$", HEADER, re.M)
     if weights != [1, 2, 4] or not shift or HEADER.count("a sum of 1, 2 and 4 for sites 1, 2 and 3") != 1:
         yield f"the sites' weights are {weights}"

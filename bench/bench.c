@@ -89,6 +89,16 @@ static void all_and(struct circuit *c, const char *name, size_t inputs, size_t g
         output(c, k, inputs + gates - 1 - k);
 }
 
+/* The kind of every gate drawn from all four, its operands from the wires below it, the last wires opened. */
+static void drawn(struct circuit *c, const char *name, size_t inputs, size_t gates, size_t outputs)
+{
+    all_and(c, name, inputs, gates, outputs);
+    for (size_t k = 0; k < gates; k++) {
+        size_t kind = 1 + draw(4), first = draw(inputs + k), second = draw(inputs + k);
+        gate(c, k, kind, first, kind == BAKEBUTTON_NOT ? 0 : second);
+    }
+}
+
 /* ---- 128 bits of site 1 and 128 of site 2: 1 where at most t positions differ. Counted by full adders of one AND each. */
 
 static struct circuit *building;
@@ -320,7 +330,7 @@ static double median_ratio(const double *of, const double *to)
     return median(ratio);
 }
 
-enum { CIRCUITS = 4 };
+enum { CIRCUITS = 5 };
 
 static double ns[CALLS][CIRCUITS][ENGINES][PLACES][SAMPLES];
 
@@ -357,7 +367,8 @@ int main(int count, char **words)
     all_and(&circuits[0], "largest, all AND", 1024, 3072, 256);
     all_and(&circuits[1], "half of it", 512, 1536, 128);
     all_and(&circuits[2], "a quarter of it", 256, 768, 64);
-    hamming(&circuits[3], "128-bit Hamming", 32);
+    drawn(&circuits[3], "largest, drawn kinds", 1024, 3072, 256);
+    hamming(&circuits[4], "128-bit Hamming", 32);
     for (unsigned c = 0; c < CIRCUITS; c++) {
         prepare(&jobs[c], &circuits[c]);
         hold(&jobs[c]);

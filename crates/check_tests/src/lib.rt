@@ -77,17 +77,13 @@ pub fn judge_job(n: usize, a: u32, b: u32, c: u32, d: u32) -> usize
     13
 }
 
-// 1 for a gate that deals, AND or OR, else 0.
+// 1 for a gate that deals, AND or OR, else 0. Of the four kinds those two are the even ones: no branch by the kind.
 pub fn deal_bit(kind: u16) -> usize
+    requires { ⌜ kind ≤ 4 ⌝ }
     ensures { λ r. ⌜ (r ≡ deals kind) × (r ≤ 1) ⌝ }
 {
-    if kind == 1 {
-        return 0;
-    }
-    if kind == 3 {
-        return 0;
-    }
-    1
+    let odd = kind & 1;
+    1 - odd as usize
 }
 
 // The site that a number stands for: 1, 2, and 3 for any other.

@@ -1,7 +1,7 @@
 // What the calls answer, as the structs that C gets: their enums, the lengths for a circuit, the listing's text.
 ghost use mathlib.Core.Path.{_≡_};
 ghost use Rattle.theory_calls.specs.File.{circuit};
-ghost use Rattle.file_header.specs.Opened.{Opened};
+ghost use Rattle.file_parts.specs.Checked.{Checked};
 ghost use Rattle.check_circuit.specs.Answers.{done-answer};
 ghost use Rattle.run.specs.Answers.{run-answer};
 ghost use Rattle.listing.specs.Answers.{listed-answer};
@@ -37,7 +37,7 @@ pub fn run_told(a: Ran) -> Answer
 
 // The lengths for a circuit that was checked.
 pub fn sizes(file: &[u8], c: Counts) -> SizesAnswer
-    requires { ⌜ Opened (now file) c ⌝ }
+    requires { ⌜ Checked (now file) c ⌝ }
     ensures { λ r. ⌜ r ≡ sizes-of (circuit (now (file .entry))) ⌝ }
 {
     let a = file_counts::count_ands(file, c);

@@ -1,6 +1,6 @@
 -- What is counted in a circuit, as the code meets it.
 --     deals-law, gate-deals-law     a gate that deals
---     number-law, owned-law         an input of a site
+--     number-law, owned-yes, owned-no    an input of a site
 --     ands-turn, owned-turn         one more gate, one more input;  counted: all of them
 -- Assumes nothing.
 use mathlib.Core.Path.{_≡_, refl, sym, ap, ap₂, _∙_}
@@ -22,7 +22,8 @@ use Rattle.file_parts.specs.declared.Owner.{Owner}
 use Rattle.file_parts.specs.declared.Owner.the-variants.{Is as OwnerIs}
 use Rattle.file_header.specs.Opened.{Opened}
 use Rattle.file_parts.specs.Mirror.{gate-by, owner-by}
-use Rattle.file_parts.proofs.CheckedLaws.{gate-is}
+use Rattle.file_parts.specs.Checked.{Checked}
+use Rattle.file_parts.proofs.CheckedLaws.{owner-known, gate-is}
 use Rattle.file_parts.proofs.ReaderLaws.{owner-some}
 use Rattle.check_tests.specs.Mirror.{deals, site-no}
 
@@ -54,13 +55,25 @@ number-law a b =
     (by-number (λ t m. is s2 t ≡ eqb 2 m) refl refl refl b)
     (by-number (λ t m. is s3 t ≡ eqb 3 m) refl refl refl b) a
 
--- of an owner that was read: 1 where the numbers are one, else 0
-module _ (s : List ℕ) (c : Counts) (site k o : ℕ) (r : Owner) (e : r ≡ owner-by s c k) (q : r ≡ OwnerIs o) (h : k < c .inputs) (x y : ℕ) (ex : x ≡ site-no site) (ey : y ≡ site-no o) where
-  pub owned-yes : x ≡ y → _≡_ {A = ℕ} 1 (cond (is (site-of site) (circuit s .owner k)) 1 0)
-  owned-yes d = rw (← owner-some s c k o r e q h, number-law site o, eq-eqb (site-no site) (site-no o) (sym ex ∙ d ∙ ey))
+-- an owner's number is its site's
+own-number : (o : ℕ) → (1 ≤ o) × (o ≤ 3) → o ≡ site-no o
+unfolding site-no
+own-number zero h = let l = h .0 in absurd (omega arith)
+own-number (suc zero) h = refl
+own-number (suc (suc zero)) h = refl
+own-number (suc (suc (suc zero))) h = refl
+own-number (suc (suc (suc (suc n)))) h = let l = h .1 in absurd (omega arith)
 
-  pub owned-no : (x ≡ y → ⊥) → _≡_ {A = ℕ} 0 (cond (is (site-of site) (circuit s .owner k)) 1 0)
-  owned-no d = rw (← owner-some s c k o r e q h, number-law site o, ne-eqb (site-no site) (site-no o) (λ z. d (ex ∙ z ∙ sym ey)))
+-- of an owner that was read: 1 where the numbers are one, else 0
+module _ (s : List ℕ) (c : Counts) (site k o : ℕ) (r : Owner) (z : Checked s c) (e : r ≡ owner-by s c k) (q : r ≡ OwnerIs o) (h : k < c .inputs) (x : ℕ) (ex : x ≡ site-no site) where
+  itself : o ≡ site-no o
+  itself = own-number o (owner-known s c k o r z e q h)
+
+  pub owned-yes : x ≡ o → _≡_ {A = ℕ} 1 (cond (is (site-of site) (circuit s .owner k)) 1 0)
+  owned-yes d = rw (← owner-some s c k o r e q h, number-law site o, eq-eqb (site-no site) (site-no o) (sym ex ∙ d ∙ itself))
+
+  pub owned-no : (x ≡ o → ⊥) → _≡_ {A = ℕ} 0 (cond (is (site-of site) (circuit s .owner k)) 1 0)
+  owned-no d = rw (← owner-some s c k o r e q h, number-law site o, ne-eqb (site-no site) (site-no o) (λ y. d (ex ∙ y ∙ sym itself)))
 
 pub ands-turn : (f : ℕ → Gate) (k t d : ℕ) → t ≡ ands f k → d ≡ dealing (f k) → t + d ≡ ands f (k + 1)
 unfolding ands

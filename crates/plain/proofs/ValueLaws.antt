@@ -1,50 +1,70 @@
 -- What the passes leave are the plain values.
---     kind-law                     a gate's value on bytes is its Boolean value
+--     kind-law                     a gate's value by the table is its Boolean value
 --     inputs-law, gates-law        buffers after the first k inputs, and after the first k gates
 --     read-gate                    a step with what was read of a gate is a step with what stands in the file
 --     values-law                   both passes, at the counts that the code holds
 -- Assumes nothing.
 use mathlib.Core.Path.{_≡_, refl, sym, ap, ap₂, _∙_, subst}
-use mathlib.Core.Bool.{Bool, true, false, _||_}
+use mathlib.Core.Bool.{Bool, true, false, not, _&&_, _||_, xor}
 use mathlib.Core.List.{List, [], _∷_, _++_, map}
 use Prim.Native.Nat.{ℕ, zero, suc, _+_, _<_, _≤_}
 use native.Mathlib.Omega.{arith}
 use lib.ListN.{length, getD, set, length-map, List·getD-map}
-use lib.Bits.{bitOr}
-use borrow.Author.Tests.{ne-eqb}
 use Rattle.theory_sharing.specs.Circuit.{Circuit, wires}
 use Rattle.theory_sharing.specs.Store.{fill}
 use Rattle.theory_sharing.proofs.Parts.{map-snoc}
 use Rattle.theory_sharing.proofs.StoreLaws.{fill-one, fill-read, fill-all}
 use Rattle.theory_calls.specs.File.{inputs-of, gates-of, kind-at, first-at, second-at, gate-of, circuit}
 use Rattle.theory_calls.specs.Plain.{bit, byte, plain-gate, plain-inputs, plain-values, plain}
-use Rattle.theory_calls.proofs.PlainLaws.{byte-xor, byte-and, byte-not, inputs-length, values-length, plain-length}
+use Rattle.theory_calls.proofs.PlainLaws.{inputs-length, values-length, plain-length}
 use Rattle.file_header.specs.declared.Counts.{Counts}
 use Rattle.file_parts.specs.declared.Gate.{Gate}
 use Rattle.file_parts.specs.declared.Gate.the-variants.{Is as GateIs}
 use Rattle.file_parts.specs.Mirror.{gate-by}
 use Rattle.file_parts.proofs.ReaderLaws.{gate-some}
 use Rattle.file_parts.specs.Checked.{Checked}
-use Rattle.file_parts.proofs.CheckedLaws.{operands-lower}
+use Rattle.file_parts.proofs.CheckedLaws.{operands-lower, kind-good}
 use Rattle.file_parts.specs.Loop.{up-to}
 use Rattle.plain.specs.Mirror.{kind-value, inputs-on, gate-on, gates-on}
 
-byte-either : (a b : Bool) → byte (a || b) ≡ bitOr (byte a) (byte b)
-unfolding byte
-byte-either true true = refl
-byte-either true false = refl
-byte-either false true = refl
-byte-either false false = refl
+-- the four rows of the table
+row-xor : (a b : Bool) → kind-value 1 (byte a) (byte b) ≡ byte (xor a b)
+unfolding kind-value byte xor
+row-xor true true = refl
+row-xor true false = refl
+row-xor false true = refl
+row-xor false false = refl
 
-pub kind-law : (kind a b : ℕ) (vs : List Bool) → kind-value kind (byte (getD vs a false)) (byte (getD vs b false)) ≡ byte (plain-gate (gate-of kind a b) vs)
-unfolding kind-value plain-gate gate-of
-kind-law zero a b vs = sym (byte-either (getD vs a false) (getD vs b false))
-kind-law (suc zero) a b vs = sym (byte-xor (getD vs a false) (getD vs b false))
-kind-law (suc (suc zero)) a b vs = sym (byte-and (getD vs a false) (getD vs b false))
-kind-law (suc (suc (suc zero))) a b vs = sym (byte-not (getD vs a false))
-kind-law (suc (suc (suc (suc n)))) a b vs =
-    let k : ℕ = suc (suc (suc (suc n))) in
-    rw (ne-eqb k 1 (λ e. omega arith), ne-eqb k 2 (λ e. omega arith), ne-eqb k 3 (λ e. omega arith)) (sym (byte-either (getD vs a false) (getD vs b false)))
+row-and : (a b : Bool) → kind-value 2 (byte a) (byte b) ≡ byte (a && b)
+unfolding kind-value byte
+row-and true true = refl
+row-and true false = refl
+row-and false true = refl
+row-and false false = refl
+
+row-not : (a b : Bool) → kind-value 3 (byte a) (byte b) ≡ byte (not a)
+unfolding kind-value byte
+row-not true true = refl
+row-not true false = refl
+row-not false true = refl
+row-not false false = refl
+
+row-or : (a b : Bool) → kind-value 4 (byte a) (byte b) ≡ byte (a || b)
+unfolding kind-value byte
+row-or true true = refl
+row-or true false = refl
+row-or false true = refl
+row-or false false = refl
+
+pub kind-law : (kind a b : ℕ) (vs : List Bool) → (1 ≤ kind) × (kind ≤ 4)
+    → kind-value kind (byte (getD vs a false)) (byte (getD vs b false)) ≡ byte (plain-gate (gate-of kind a b) vs)
+unfolding plain-gate gate-of
+kind-law zero a b vs h = let l = h .0 in absurd (omega arith)
+kind-law (suc zero) a b vs h = row-xor (getD vs a false) (getD vs b false)
+kind-law (suc (suc zero)) a b vs h = row-and (getD vs a false) (getD vs b false)
+kind-law (suc (suc (suc zero))) a b vs h = row-not (getD vs a false) (getD vs b false)
+kind-law (suc (suc (suc (suc zero)))) a b vs h = row-or (getD vs a false) (getD vs b false)
+kind-law (suc (suc (suc (suc (suc n))))) a b vs h = let l = h .1 in absurd (omega arith)
 
 -- what was written is read back
 wire-read : (old : List ℕ) (vs : List Bool) (w : ℕ) → w < length vs → getD (fill old (map byte vs)) w 0 ≡ byte (getD vs w false)
@@ -69,7 +89,7 @@ module _ (f xs old : List ℕ) where
       ap (λ (z : List ℕ). set z k (byte (bit (getD xs k 0)))) (inputs-law k (omega arith))
       ∙ wire-on old (plain-inputs xs k) k (bit (getD xs k 0)) (inputs-length C xs k) (omega arith)
 
-  module _ (d : (k : ℕ) → k < gates-of f → (first-at f (inputs-of f) k < inputs-of f + k) × (second-at f (inputs-of f) k < inputs-of f + k)) (l : length old ≡ wires C) where
+  module _ (t : (k : ℕ) → k < gates-of f → (1 ≤ kind-at f (inputs-of f) k) × (kind-at f (inputs-of f) k ≤ 4)) (d : (k : ℕ) → k < gates-of f → (first-at f (inputs-of f) k < inputs-of f + k) × (second-at f (inputs-of f) k < inputs-of f + k)) (l : length old ≡ wires C) where
     gate-law : (g : ℕ) → g < gates-of f → gate-on f (inputs-of f) g (laid g) ≡ laid (suc g)
     unfolding gate-on plain-values
     gate-law g h =
@@ -78,7 +98,7 @@ module _ (f xs old : List ℕ) where
         let i : ℕ = inputs-of f in
         let p = d g h in
         ap₂ (λ (x y : ℕ). set (laid g) (i + g) (kind-value (kind-at f i g) x y)) (wire-read old vs (first-at f i g) (omega arith)) (wire-read old vs (second-at f i g) (omega arith))
-        ∙ ap (set (laid g) (i + g)) (kind-law (kind-at f i g) (first-at f i g) (second-at f i g) vs)
+        ∙ ap (set (laid g) (i + g)) (kind-law (kind-at f i g) (first-at f i g) (second-at f i g) vs (t g h))
         ∙ wire-on old vs (i + g) (plain-gate (C .gate g) vs) e (omega arith)
 
     gates-law : (g : ℕ) → g ≤ gates-of f → gates-on f (inputs-of f) (laid 0) g ≡ laid g
@@ -129,7 +149,10 @@ values-law f xs old vs vs′ c k x l e q =
     let g = o .gates-are in
     q ∙ ap (λ (z : List ℕ). gates-on f (c .inputs) z (c .gates)) (e ∙ ap (inputs-on xs old) x)
     ∙ (λ j. gates-on f (i j) (inputs-on xs old (i j)) (g j))
-    ∙ both-passes f xs old (λ n h. at-file n h) (omega arith)
+    ∙ both-passes f xs old (λ n h. kinds n h) (λ n h. at-file n h) (omega arith)
   where
+    kinds : (n : ℕ) → n < gates-of f → (1 ≤ kind-at f (inputs-of f) n) × (kind-at f (inputs-of f) n ≤ 4)
+    kinds n h = let g = k .opened .gates-are in subst (λ (i : ℕ). (1 ≤ kind-at f i n) × (kind-at f i n ≤ 4)) (k .opened .ins-are) (kind-good _ _ _ _ (k .gates n (omega arith)))
+
     at-file : (n : ℕ) → n < gates-of f → (first-at f (inputs-of f) n < inputs-of f + n) × (second-at f (inputs-of f) n < inputs-of f + n)
     at-file n h = let g = k .opened .gates-are in subst (λ (i : ℕ). (first-at f i n < i + n) × (second-at f i n < i + n)) (k .opened .ins-are) (operands-lower _ _ _ _ (k .gates n (omega arith)))

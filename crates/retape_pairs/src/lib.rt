@@ -101,6 +101,13 @@ fn next_product(p: Two, u: u8, q: Two, v: u8) -> u8
     (p.y & q.y) ^ (p.y & b) ^ (a & q.y)
 }
 
+// By how much it moves, y and z being the two values under the second inputs: what stays of the two products is not worked out twice.
+fn change(p: Two, q: Two, u: u8, v: u8, y: u8, z: u8) -> u8
+    ensures { λ r. ⌜ r ≡ bits .sub (next-product bits (pair-of p) y (pair-of q) z) (next-product bits (pair-of p) u (pair-of q) v) ⌝ }
+{
+    (p.y & (v ^ z)) ^ ((u ^ y) & q.y)
+}
+
 // An AND of two wires with pairs p and q, values u and v under the first inputs, y and z under the second.
 fn mix(
     own: &[u8],
@@ -118,7 +125,7 @@ fn mix(
     ensures { λ r. ⌜ r ≡ mixed (now (own .entry)) (now (next .entry)) (now (prev .entry)) at p q u v y z ⌝ }
 {
     let first = next_product(p, u, q, v);
-    let second = next_product(p, y, q, z);
+    let moved = change(p, q, u, v, y, z);
     let k = run_messages::deal(own, at.own, product(p, q));
     let m = run_messages::deal(next, at.next, first);
     let t = at.prev;
@@ -126,7 +133,7 @@ fn mix(
     let y = k.a ^ (m.d ^ prev[t + 1]);
     Mixed {
         pair: Two { x, y },
-        first: m.a ^ (second ^ first),
+        first: m.a ^ moved,
         second: m.b,
     }
 }
@@ -150,7 +157,9 @@ fn and_gate(
     requires { ⌜ (length (now room) ≡ 4 * n) × (n ≤ 4096) ⌝ }
     requires { ⌜ (a < w) × (b < w) × (w < n) ⌝ }
     requires { ⌜ Fits 1 (length (now own)) (length (now next)) (length (now prev)) (further from t) × (length (now moved) ≡ length (now next)) ⌝ }
-    ensures { λ r. ⌜ st (now (room .exit)) (now (moved .exit)) (further from r) ≡ and-on (site-of site) (now (own .entry)) (now (next .entry)) (now (prev .entry)) n a b w o (st (now (room .entry)) (now (moved .entry)) (further from t)) ⌝ }
+    ensures { λ r. ⌜ st (now (room .exit)) (now (moved .exit)) (further from r)
+        ≡ and-on (site-of site) (now (own .entry)) (now (next .entry)) (now (prev .entry)) n a b w o
+        (st (now (room .entry)) (now (moved .entry)) (further from t)) ⌝ }
 {
     let at = beyond(from, t);
     let p = flip(site, o, pair_in(room, n, a));
@@ -214,7 +223,9 @@ fn kind_step(
     requires { ⌜ (length (now room) ≡ 4 * n) × (n ≤ 4096) ⌝ }
     requires { ⌜ Lower (gate-of kind a b) w × (w < n) ⌝ }
     requires { ⌜ Fits (dealing (gate-of kind a b)) (length (now own)) (length (now next)) (length (now prev)) (further from t) × (length (now moved) ≡ length (now next)) ⌝ }
-    ensures { λ r. ⌜ st (now (room .exit)) (now (moved .exit)) (further from r) ≡ gate-on (site-of site) (now (own .entry)) (now (next .entry)) (now (prev .entry)) n w (gate-of kind a b) (st (now (room .entry)) (now (moved .entry)) (further from t)) ⌝ }
+    ensures { λ r. ⌜ st (now (room .exit)) (now (moved .exit)) (further from r)
+        ≡ gate-on (site-of site) (now (own .entry)) (now (next .entry)) (now (prev .entry)) n w (gate-of kind a b)
+        (st (now (room .entry)) (now (moved .entry)) (further from t)) ⌝ }
 {
     if kind == 1 {
         xor_gate(room, n, a, b, w);
@@ -245,7 +256,9 @@ pub fn gate_step(
     requires { ⌜ Checked (now file) c × (k < c .gates) ⌝ }
     requires { ⌜ length (now room) ≡ 4 * (c .inputs + c .gates) ⌝ }
     requires { ⌜ Fits (dealing (circuit (now file) .gate k)) (length (now own)) (length (now next)) (length (now prev)) (further from t) × (length (now moved) ≡ length (now next)) ⌝ }
-    ensures { λ r. ⌜ st (now (room .exit)) (now (moved .exit)) (further from r) ≡ gate-on (site-of site) (now (own .entry)) (now (next .entry)) (now (prev .entry)) (c .inputs + c .gates) (c .inputs + k) (circuit (now (file .entry)) .gate k) (st (now (room .entry)) (now (moved .entry)) (further from t)) ⌝ }
+    ensures { λ r. ⌜ st (now (room .exit)) (now (moved .exit)) (further from r)
+        ≡ gate-on (site-of site) (now (own .entry)) (now (next .entry)) (now (prev .entry)) (c .inputs + c .gates) (c .inputs + k)
+        (circuit (now (file .entry)) .gate k) (st (now (room .entry)) (now (moved .entry)) (further from t)) ⌝ }
 {
     let n = c.inputs + c.gates;
     let w = c.inputs + k;

@@ -1,4 +1,4 @@
 pub mod StepLaws
 pub mod StateLaws
 pub mod GateLaw
-pub mod WalkLaw
+pub mod BothPasses

@@ -19,7 +19,7 @@ use Rattle.run_site.specs.Mirror.{put-at}
 use Rattle.run_messages.specs.Mirror.{deal-at}
 use Rattle.run_messages.specs.declared.Four.{Four}
 use Rattle.run_steps.specs.Mirror.{on-part}
-use Rattle.run_passes.proofs.EngineLaws.{ands-room, owned-room}
+use Rattle.run_passes.proofs.PassLaws.{ands-room, owned-room}
 use Rattle.retape_pairs.specs.declared.Places.{Places}
 use Rattle.retape_pairs.specs.Mirror.{Fits, St, st, places, further, put-two, and-on, gate-on}
 use Rattle.retape_pairs.proofs.PairLaws.{further-none, further-add}

@@ -34,7 +34,10 @@ fn input_step(
     requires { ⌜ Checked (now file) c × (k < c .inputs) × (length (now inputs) ≡ c .inputs) × (length (now second) ≡ c .inputs) ⌝ }
     requires { ⌜ (length (now room) ≡ 4 * (c .inputs + c .gates)) × (length (now moved) ≡ length (now next)) ⌝ }
     requires { ⌜ InFits (is (site-of site) (circuit (now file) .owner k)) (is (site-of after) (circuit (now file) .owner k)) (length (now own)) (length (now next)) (length (now prev)) at ⌝ }
-    ensures { λ r. ⌜ st (now (room .exit)) (now (moved .exit)) r ≡ input-on (now (own .entry)) (now (next .entry)) (now (prev .entry)) (c .inputs + c .gates) k (getD (now (inputs .entry)) k 0) (getD (now (second .entry)) k 0) (is (site-of site) (circuit (now (file .entry)) .owner k)) (is (site-of after) (circuit (now (file .entry)) .owner k)) (st (now (room .entry)) (now (moved .entry)) at) ⌝ }
+    ensures { λ r. ⌜ st (now (room .exit)) (now (moved .exit)) r
+        ≡ input-on (now (own .entry)) (now (next .entry)) (now (prev .entry)) (c .inputs + c .gates) k (getD (now (inputs .entry)) k 0)
+        (getD (now (second .entry)) k 0) (is (site-of site) (circuit (now (file .entry)) .owner k))
+        (is (site-of after) (circuit (now (file .entry)) .owner k)) (st (now (room .entry)) (now (moved .entry)) at) ⌝ }
 {
     let n = c.inputs + c.gates;
     let x = inputs[k];
@@ -84,7 +87,10 @@ fn inputs_pass(
     requires { ⌜ Checked (now file) c × (length (now inputs) ≡ c .inputs) × (length (now second) ≡ c .inputs) ⌝ }
     requires { ⌜ (length (now room) ≡ 4 * (c .inputs + c .gates)) × (site-of after ≡ after-it (site-of site)) ⌝ }
     requires { ⌜ Lengths (circuit (now file)) (site-of site) (length (now own)) (length (now next)) (length (now prev)) (length (now moved)) ⌝ }
-    ensures { λ r. ⌜ st (now (room .exit)) (now (moved .exit)) r ≡ in-state (site-of site) (circuit (now (file .entry))) (at-wire (now (inputs .entry))) (at-wire (now (second .entry))) (now (own .entry)) (now (next .entry)) (now (prev .entry)) (take (2 * (c .inputs + c .gates)) (now (room .entry))) (drop (2 * (c .inputs + c .gates)) (now (room .entry))) (now (moved .entry)) (c .inputs) ⌝ }
+    ensures { λ r. ⌜ st (now (room .exit)) (now (moved .exit)) r
+        ≡ in-state (site-of site) (circuit (now (file .entry))) (at-wire (now (inputs .entry))) (at-wire (now (second .entry))) (now (own .entry))
+        (now (next .entry)) (now (prev .entry)) (take (2 * (c .inputs + c .gates)) (now (room .entry)))
+        (drop (2 * (c .inputs + c .gates)) (now (room .entry))) (now (moved .entry)) (c .inputs) ⌝ }
 {
     let n = c.inputs;
     let mut at = Places {
@@ -129,7 +135,9 @@ fn gates_pass(
     requires { ⌜ Checked (now file) c ⌝ }
     requires { ⌜ (length (now room) ≡ 4 * (c .inputs + c .gates)) × (length (now moved) ≡ length (now next)) ⌝ }
     requires { ⌜ Fits (ands (circuit (now file) .gate) (c .gates)) (length (now own)) (length (now next)) (length (now prev)) start ⌝ }
-    ensures { λ r. ⌜ st (now (room .exit)) (now (moved .exit)) (further start r) ≡ gates-on (now (file .entry)) (site-of site) (now (own .entry)) (now (next .entry)) (now (prev .entry)) (c .inputs) (c .inputs + c .gates) (st (now (room .entry)) (now (moved .entry)) start) (c .gates) ⌝ }
+    ensures { λ r. ⌜ st (now (room .exit)) (now (moved .exit)) (further start r)
+        ≡ gates-on (now (file .entry)) (site-of site) (now (own .entry)) (now (next .entry)) (now (prev .entry)) (c .inputs) (c .inputs + c .gates)
+        (st (now (room .entry)) (now (moved .entry)) start) (c .gates) ⌝ }
 {
     let n = c.gates;
     let mut t: usize = 0;
@@ -160,7 +168,8 @@ pub fn pass(
     requires { ⌜ (length (now room) ≡ 4 * (c .inputs + c .gates)) × (site-of after ≡ after-it (site-of site)) ⌝ }
     requires { ⌜ Lengths (circuit (now file)) (site-of site) (length (now own)) (length (now next)) (length (now prev)) (length (now moved)) ⌝ }
     requires { ⌜ take (2 * (c .inputs + c .gates)) (now room) ≡ both-plain (circuit (now file)) (now inputs) (now second) ⌝ }
-    ensures { λ _. ⌜ Walked (site-of site) (circuit (now (file .entry))) (now (inputs .entry)) (now (second .entry)) (now (own .entry)) (now (next .entry)) (now (prev .entry)) (now (room .exit)) (now (moved .exit)) ⌝ }
+    ensures { λ _. ⌜ Walked (site-of site) (circuit (now (file .entry))) (now (inputs .entry)) (now (second .entry)) (now (own .entry)) (now (next .entry))
+        (now (prev .entry)) (now (room .exit)) (now (moved .exit)) ⌝ }
 {
     let at = inputs_pass(
         file,

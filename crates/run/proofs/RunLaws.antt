@@ -14,7 +14,7 @@ use Rattle.theory_calls.specs.File.{inputs-of, gates-of, circuit}
 use Rattle.file_header.specs.declared.Counts.{Counts}
 use Rattle.run_passes.specs.declared.Pos.{Pos}
 use Rattle.run_passes.specs.Mirror.{St, st, Room, InRoom, inputs-on, gates-on}
-use Rattle.run_passes.proofs.EngineLaws.{lower-of, in-moved, inputs-pos}
+use Rattle.run_passes.proofs.PassLaws.{lower-of, in-moved, inputs-pos}
 use Rattle.run_laws.specs.Loops.{place}
 use Rattle.run_laws.proofs.WholeLaw.{whole-law}
 use Rattle.theory_sharing.specs.Ops.{bits}

@@ -23,7 +23,7 @@ use Rattle.file_parts.proofs.SiteLaws.{by-number}
 use Rattle.run_messages.specs.Mirror.{deal-at}
 use Rattle.run_passes.specs.declared.Pos.{Pos}
 use Rattle.run_passes.specs.Mirror.{next-pos, own-place}
-use Rattle.run_passes.proofs.EngineLaws.{owned-room, ands-room, placed-eq, one-more}
+use Rattle.run_passes.proofs.PassLaws.{owned-room, ands-room, placed-eq, one-more}
 use Rattle.run_laws.specs.Link.{sent-of}
 use Rattle.run_laws.specs.Loops.{base, place, in-places, in-place, site-place}
 use Rattle.run_laws.specs.Places.{Drawn}

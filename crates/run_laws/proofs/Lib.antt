@@ -5,6 +5,6 @@ pub mod GateReads
 pub mod WireLaws
 pub mod StoredLaws
 pub mod DrawLaws
-pub mod EngineRuns
+pub mod PassesAtPlaces
 pub mod WholeLaw
 pub mod OpensLaw

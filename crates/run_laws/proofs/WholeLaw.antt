@@ -20,7 +20,7 @@ use Rattle.run_laws.specs.Loops.{place, in-place}
 use Rattle.run_laws.specs.Places.{Operands, as-is}
 use Rattle.run_laws.proofs.WireLaws.{operands}
 use Rattle.run_laws.proofs.StoredLaws.{moved-none, live-as-is, all-stored}
-use Rattle.run_laws.proofs.EngineRuns.{st-eq, state-after, inputs-placed, gates-placed, begins}
+use Rattle.run_laws.proofs.PassesAtPlaces.{st-eq, state-after, inputs-placed, gates-placed, begins}
 
 pub lower-is : (k : Gate) (w : ℕ) → Lower k w → Operands (λ a. a < w) k
 lower-is (XOR a b) w p = p

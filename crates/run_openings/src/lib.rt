@@ -58,7 +58,7 @@ fn open_step(
 {
     let h = output_pairs(file, c, store, k);
     let g = run_steps::deliver6(line, transcript, at + 6 * k, h);
-    run_messages::objecting(g)
+    run_copies::objecting(g)
 }
 
 // The first pass: outputs in order, and nothing is opened after one at which a site objects.
@@ -116,7 +116,7 @@ fn hand_step(file: &[u8], c: Counts, store: &[u8], tr: &[u8], outs: &mut [u8], a
 {
     let h = output_pairs(file, c, store, k);
     let p = at + 6 * k;
-    let m = run_messages::opened(h, tr[p + 3], tr[p], tr[p + 1]);
+    let m = run_copies::opened(h, tr[p + 3], tr[p], tr[p + 1]);
     put3(outs, 3 * k, m);
 }
 

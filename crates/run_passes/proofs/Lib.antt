@@ -1,1 +1,1 @@
-pub mod EngineLaws
+pub mod PassLaws

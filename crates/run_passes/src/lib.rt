@@ -51,9 +51,21 @@ pub fn and_gate(
 {
     let at = pos.at;
     let z = next(pos);
-    let s = run_steps::and_send(tapes, store, n, a, b, o, pos.t1, pos.t2, pos.t3);
-    let g = run_steps::deliver12(line, transcript, at, s);
-    run_steps::and_take(store, n, w, o, s, g);
+    run_steps::and_step(
+        tapes,
+        line,
+        store,
+        transcript,
+        n,
+        a,
+        b,
+        w,
+        o,
+        pos.t1,
+        pos.t2,
+        pos.t3,
+        at,
+    );
     z
 }
 

@@ -4,7 +4,7 @@
 --     on-lines                       what the line adds to three senders' bits
 --     put-four, put-twelve           delivered bits in the transcript
 --     on-part, at-sites              a part of the store with both its ends; three sites' steps
---     add-gate, not-gate, sends, takes    XOR, NOT, and the two halves of AND and OR at the three sites
+--     add-gate, not-gate, sends, delivers, takes    XOR, NOT, and AND and OR at the three sites: sent, delivered, taken
 --     put-held, held-at, put-six     three pairs stored, read, and sent at an opening
 use mathlib.Core.Bool.{cond}
 use mathlib.Core.List.{List, _++_}
@@ -14,7 +14,7 @@ use lib.Dec.{eqb}
 use Rattle.theory_sharing.specs.Ops.{Ops}
 use Rattle.theory_sharing.specs.Steps.{later}
 use Rattle.run_site.specs.Mirror.{pair-at, put-at, add-at, flip-at, local-at, take-at}
-use Rattle.run_messages.specs.Mirror.{pair-of, twelve, held, deal-at, on-line, kept-of, next-of, prev-of}
+use Rattle.run_messages.specs.Mirror.{pair-of, twelve, held, deal-at, line-at, on-line, kept-of, next-of, prev-of}
 use Rattle.run_messages.specs.declared.Held.{Held}
 use Rattle.run_messages.specs.declared.Four.{Four}
 use Rattle.run_messages.specs.declared.Twelve.{Twelve}
@@ -71,6 +71,10 @@ module _ (R : Ops) where
       twelve (deal-at R tapes t1 (local-at R a b (o, 0) (part1 n l)))
       (deal-at R tapes t2 (local-at R a b (0, 0) (part2 n l)))
       (deal-at R tapes t3 (local-at R a b (0, o) (part3 n l)))
+
+  -- and as delivered, by a line from its place at
+  abbrev pub delivers : List ℕ → List ℕ → ℕ → ℕ → ℕ → ℕ → ℕ → ℕ → ℕ → ℕ → List ℕ → Twelve
+  delivers tapes line n a b o t1 t2 t3 at l = on-lines R (line-at line at) (sends tapes n a b o t1 t2 t3 l)
 
   -- each site's new pair, from what it sent (s) and what was delivered (g)
   unfoldable pub takes : ℕ → ℕ → ℕ → Twelve → Twelve → List ℕ → List ℕ

@@ -59,9 +59,6 @@ module _ (G : Group) (s : Site) (C : Circuit) where
   unfolding new-tapes
   new-length x y t = written-length C (retape R s C x y (read C t))
 
-  module _ (ok-list : (t : List ℕ) → AllDraws Ok (read C t)) where
-      -- where every number is Ok, as at bits; a family with numbers that are not would hand in its own
-
   seen-same : {x y : ℕ → ℕ} (t : List ℕ) → AllDraws Ok (read C t) → Kept x y
       → seen-view R s C y (read C (new-tapes R s C x y t)) ≡ seen-view R s C x (read C t)
   unfolding new-tapes

@@ -1,5 +1,5 @@
 -- The wrong engines of 01's "How far each statement goes", each a definition; proofs/ShutOut.antt shows that it does not meet the promise.
--- Edits of the code that keep its shape make some of them in one way (run_messages' opens_a_fixed_bit, the wrong answer made-up-entry), the others not at all.
+-- Edits of the code that keep its shape make some of them in one way (run_copies' opens_a_fixed_bit, the wrong answer made-up-entry), the others not at all.
 --     refuses-everything n p     with this number and place
 --     writes-nothing             it says Good
 --     opens-a-fixed-bit v        v at every output and site; all else is right

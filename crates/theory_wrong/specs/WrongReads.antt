@@ -102,7 +102,7 @@ longer-buffer-passes = record {
 }
 
 -- OR is computed as XOR.
--- plain: `x | y` → `x ^ y`
+-- plain: `0xe5860` → `0x65860`
 abbrev pub or-as-xor : Wrong
 or-as-xor = record {
   call = Plain (gated 4 0 1) (1 ∷ 1 ∷ []) (untouched 3);

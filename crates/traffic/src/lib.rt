@@ -6,6 +6,7 @@ ghost use Rattle.theory_calls.specs.Answer.{number-of, place-of};
 ghost use Rattle.theory_calls.specs.Calls.{Traffic, does};
 ghost use Rattle.theory_sharing.specs.Traffic.{input-adds, gate-adds, output-adds, traffic-table};
 ghost use Rattle.file_header.specs.Opened.{Opened};
+ghost use Rattle.file_parts.specs.Checked.{Checked};
 ghost use Rattle.traffic_entries.specs.Mirror.{table-of, plus, Under};
 ghost use Rattle.traffic.specs.Mirror.{input-steps, gate-steps, output-steps, sums-upto, refusal-by};
 use file_header::Counts;
@@ -33,7 +34,7 @@ fn input_step(file: &[u8], c: Counts, k: usize, t: [[u32; 3]; 3]) -> [[u32; 3]; 
 }
 
 fn gate_step(file: &[u8], c: Counts, k: usize, t: [[u32; 3]; 3]) -> [[u32; 3]; 3]
-    requires { ⌜ Opened (now file) c × (k < c .gates) ⌝ }
+    requires { ⌜ Checked (now file) c × (k < c .gates) ⌝ }
     requires { ⌜ Under t 8192 ⌝ }
     ensures { λ r. ⌜ r ≡ plus t (table-of (gate-adds (circuit (now (file .entry)) .gate k))) ⌝ }
 {
@@ -67,7 +68,7 @@ fn inputs_table(file: &[u8], c: Counts) -> [[u32; 3]; 3]
 }
 
 fn gates_table(file: &[u8], c: Counts) -> [[u32; 3]; 3]
-    requires { ⌜ Opened (now file) c ⌝ }
+    requires { ⌜ Checked (now file) c ⌝ }
     ensures { λ r. ⌜ r ≡ sums-upto (gate-steps (now (file .entry))) (c .gates) ⌝ }
 {
     let n = c.gates;
@@ -95,9 +96,9 @@ fn outputs_table(n: usize) -> [[u32; 3]; 3]
     t
 }
 
-// Behind 1 to 6, which are all checks of this call: the table. An opened file is enough for it. The public call asks it.
+// Behind 1 to 6, which are all checks of this call: the table. The public call asks it.
 pub fn whole_table(file: &[u8], c: Counts) -> [[u32; 3]; 3]
-    requires { ⌜ Opened (now file) c ⌝ }
+    requires { ⌜ Checked (now file) c ⌝ }
     ensures { λ r. ⌜ r ≡ traffic-table (circuit (now (file .entry))) ⌝ }
 {
     let i = inputs_table(file, c);

@@ -8,7 +8,6 @@ ghost use Rattle.theory_calls.specs.File.{circuit, site-of};
 ghost use Rattle.theory_calls.specs.Checks.{verdict};
 ghost use Rattle.theory_calls.specs.Calls.{View, does};
 ghost use Rattle.theory_calls.specs.AtBits.{clean-store, view-on};
-ghost use Rattle.file_header.specs.Opened.{Opened};
 ghost use Rattle.file_parts.specs.Checked.{Checked};
 ghost use Rattle.run_laws.specs.Loops.{site-place};
 ghost use Rattle.check_circuit.specs.Answers.{done-after};
@@ -31,7 +30,7 @@ fn given_fault(
     view: usize,
     store: usize,
 ) -> Fault
-    requires { ⌜ Opened (now file) c × (a ≡ ands (circuit (now file) .gate) (c .gates)) × (a ≤ c .gates) ⌝ }
+    requires { ⌜ Checked (now file) c × (a ≡ ands (circuit (now file) .gate) (c .gates)) × (a ≤ c .gates) ⌝ }
     ensures { λ r. ⌜ found r ≡ verdict (view-checks (now (file .entry)) (now (inputs .entry)) (now (tapes .entry)) site view store) ⌝ }
 {
     let f = check_given::slices_fault(file, c, a, inputs, tapes);

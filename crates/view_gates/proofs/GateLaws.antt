@@ -33,11 +33,11 @@ use Rattle.run_laws.proofs.GateReads.{bits-zero, and-sent, or-sent}
 use Rattle.run_laws.proofs.WholeLaw.{lower-is}
 use Rattle.run_laws.proofs.StoredLaws.{moved-none, live-as-is, stored-long, stored-reads, gate-stored}
 use Rattle.run_laws.proofs.WireLaws.{operands, wire-at}
-use Rattle.run_passes.proofs.EngineLaws.{placed-eq}
-use Rattle.run_laws.proofs.EngineRuns.{st-eq}
+use Rattle.run_passes.proofs.PassLaws.{placed-eq}
+use Rattle.run_laws.proofs.PassesAtPlaces.{st-eq}
 use Rattle.run_laws.proofs.DrawLaws.{spots, drawn}
 use Rattle.view_inputs.specs.Mirror.{four-of-site, with-at, past-and, and-seen, gate-seen, ins-seen, state-seen}
-use Rattle.view_inputs.proofs.SeenLaws.{on-none}
+use Rattle.view_inputs.proofs.InputsSeen.{on-none}
 
 all-none : (m : Twelve) → on-lines bits none m ≡ m
 unfolding on-lines

@@ -19,7 +19,7 @@ use Rattle.theory_calls.specs.Calls.{at-wire}
 use Rattle.theory_calls.proofs.Limits.{ands-most}
 use Rattle.file_header.specs.declared.Counts.{Counts}
 use Rattle.run_passes.specs.Mirror.{St, Lower}
-use Rattle.run_passes.proofs.EngineLaws.{lower-of, ands-room}
+use Rattle.run_passes.proofs.PassLaws.{lower-of, ands-room}
 use Rattle.run_laws.specs.Loops.{base, place}
 use Rattle.view_inputs.specs.Mirror.{gate-seen, gates-seen, ins-seen, state-seen, AndRoom, Seeing, Begun}
 use Rattle.file_parts.specs.Loop.{up-to}

@@ -25,12 +25,12 @@ use Rattle.theory_calls.proofs.Limits.{ands-most}
 use Rattle.file_header.specs.declared.Counts.{Counts}
 use Rattle.run_passes.specs.declared.Pos.{Pos}
 use Rattle.run_passes.specs.Mirror.{St, st, own-place}
-use Rattle.run_passes.proofs.EngineLaws.{owned-room, own-room}
+use Rattle.run_passes.proofs.PassLaws.{owned-room, own-room}
 use Rattle.run_laws.specs.Places.{puts}
 use Rattle.run_laws.specs.Loops.{base, in-places}
-use Rattle.run_laws.proofs.EngineRuns.{st-eq}
+use Rattle.run_laws.proofs.PassesAtPlaces.{st-eq}
 use Rattle.view_inputs.specs.Mirror.{input-seen, ins-seen, start-seen, Seeing}
-use Rattle.view_inputs.proofs.SeenLaws.{in-step}
+use Rattle.view_inputs.proofs.InputsSeen.{in-step}
 
 -- of later inputs a site owns at most each
 pub one-or-none : (b : Bool) → cond b 1 0 ≤ 1

@@ -1,2 +1,2 @@
-pub mod SeenLaws
+pub mod InputsSeen
 pub mod InsLaws

@@ -1,5 +1,5 @@
 -- What the passes over inputs and gates compute for one site on a clean line, and the states that they go through. The state is that of a
--- run (engine's St), with the bits delivered to the site in place of the transcript. No public contract cites these: laws tie them to sharing's views.
+-- run (run_passes' St), with the bits delivered to the site in place of the transcript. No public contract cites these: laws tie them to sharing's views.
 --     pair-of-site, four-of-site       of three pairs the site's; of the twelve bits of an AND or OR the four that reach it
 --     put-two, see-two, past-two       two delivered bits; the same unless they are the site's own; the place after them
 --     past-and                         the places after an AND or OR

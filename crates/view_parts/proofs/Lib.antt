@@ -1,2 +1,2 @@
-pub mod ShownLaws
+pub mod OwnInputs
 pub mod DeliveredLaws

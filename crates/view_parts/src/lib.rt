@@ -9,7 +9,6 @@ ghost use Rattle.theory_sharing.specs.View.{own-ins};
 ghost use Rattle.theory_calls.specs.File.{circuit, site-of};
 ghost use Rattle.theory_calls.specs.Calls.{at-wire};
 ghost use Rattle.theory_calls.specs.AtBits.{clean-store};
-ghost use Rattle.file_header.specs.Opened.{Opened};
 ghost use Rattle.file_parts.specs.Checked.{Checked};
 ghost use Rattle.view_inputs.specs.Mirror.{start-seen, Seeing};
 ghost use Rattle.view_parts.specs.Mirror.{copies-of-site, put-own, copies-on, copies-all, opened-on, opened-all, all-seen};
@@ -28,7 +27,7 @@ fn own_step(
     k: usize,
     p: usize,
 ) -> usize
-    requires { ⌜ Opened (now file) c × (k < c .inputs) × (k < length (now inputs)) ⌝ }
+    requires { ⌜ Checked (now file) c × (k < c .inputs) × (k < length (now inputs)) ⌝ }
     requires { ⌜ (p + cond (is (site-of site) (circuit (now file) .owner k)) 1 0 ≤ length (now part)) × (p ≤ 65536) ⌝ }
     ensures { λ r. ⌜ (now (part .exit) ≡ put-own (cond (is (site-of site) (circuit (now (file .entry)) .owner k)) 1 0) p (getD (now (inputs .entry)) k 0) (now (part .entry)))
         × (r ≡ p + cond (is (site-of site) (circuit (now (file .entry)) .owner k)) 1 0) ⌝ }
@@ -43,7 +42,7 @@ fn own_step(
 
 // "own inputs in wire order"
 pub fn own_inputs(file: &[u8], c: Counts, inputs: &[u8], part: &mut [u8], site: usize)
-    requires { ⌜ Opened (now file) c × (length (now inputs) ≡ c .inputs) × (length (now part) ≡ all-owned (circuit (now file)) (site-of site)) ⌝ }
+    requires { ⌜ Checked (now file) c × (length (now inputs) ≡ c .inputs) × (length (now part) ≡ all-owned (circuit (now file)) (site-of site)) ⌝ }
     ensures { λ _. ⌜ now (part .exit) ≡ own-ins (site-of site) (circuit (now (file .entry))) (at-wire (now (inputs .entry))) (circuit (now (file .entry)) .ins) ⌝ }
 {
     let n = c.inputs;

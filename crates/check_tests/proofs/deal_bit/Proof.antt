@@ -1,20 +1,19 @@
 use borrow.Author.Needs.{needs}
-use borrow.Author.Tests.{eq-eqb, ne-eqb}
-use Rattle.check_tests.specs.Mirror.{deals}
+use native.Mathlib.Nat.{le-trans, lt-of-le-of-lt}
+use lib.Bits.{and-le-r}
+use lib.Dec.{lit<, lit≤}
+use Rattle.check_tests.proofs.TestLaws.{even-kind}
 use Rattle.check_tests.proofs.deal_bit.Statement.{statement}
 use Rattle.check_tests.proofs.deal_bit.Tie as tie
 
+cast-result : tie.Need-cast-result
+cast-result c = record { fits = lt-of-le-of-lt (and-le-r (c .args .kind) _) (lit< tt) }
+
+sub-result : tie.Need-sub-result
+sub-result c = le-trans (and-le-r (c .args .kind) _) (lit≤ tt)
+
 returns : tie.Need-returns
-unfolding deals
-returns c = (simp (eq-eqb _ _ (c .if1 .taken)), search needs)
-
-returns-2 : tie.Need-returns-2
-unfolding deals
-returns-2 c = (simp (ne-eqb _ _ (c .before .if1 .left), eq-eqb _ _ (c .if2 .taken)), search needs)
-
-returns-3 : tie.Need-returns-3
-unfolding deals
-returns-3 c = (simp (ne-eqb _ _ (c .before .if1 .left), ne-eqb _ _ (c .if2 .left)), search needs)
+returns c = (even-kind _ (c .pre), search needs)
 
 pub deal-bit-spec : {M : Type 1} → statement M
-deal-bit-spec = tie.close (tie.spec returns returns-2 returns-3)
+deal-bit-spec = tie.close (tie.spec cast-result sub-result returns)

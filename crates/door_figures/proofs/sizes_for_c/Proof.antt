@@ -9,7 +9,7 @@ use Rattle.door_figures.proofs.sizes_for_c.Statement.{statement}
 use Rattle.door_figures.proofs.sizes_for_c.Tie as tie
 
 sizes-requires : tie.Need-sizes-requires
-sizes-requires c κs = (checked-from _ _ _ (c .before .h .given .1) (c .before .before .before .check-file .ensures .1)) .opened
+sizes-requires c κs = checked-from _ _ _ (c .before .h .given .1) (c .before .before .before .check-file .ensures .1)
 
 returns : tie.Need-returns
 unfolding sized header-answer

@@ -2,7 +2,7 @@ use borrow.Author.Needs.{needs}
 use native.Mathlib.Omega.{arith}
 use Rattle.file_parts.proofs.ReaderLaws.{gate-none}
 use Rattle.file_parts.proofs.CheckedLaws.{gate-is}
-use Rattle.run_passes.proofs.EngineLaws.{gate-lower}
+use Rattle.run_passes.proofs.PassLaws.{gate-lower}
 use Rattle.retape_pairs.proofs.gate_step.Statement.{statement}
 use Rattle.retape_pairs.proofs.gate_step.Tie as tie
 

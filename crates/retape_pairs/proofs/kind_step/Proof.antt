@@ -3,7 +3,7 @@ use mathlib.Core.Path.{refl, sym, _∙_}
 use Prim.Native.Nat.{ℕ}
 use Rattle.theory_sharing.specs.Circuit.{Gate}
 use Rattle.theory_calls.specs.File.{site-of}
-use Rattle.run_passes.proofs.EngineLaws.{xor-kind, not-kind, and-or-kind, and-or-lower, and-or-deals}
+use Rattle.run_passes.proofs.PassLaws.{xor-kind, not-kind, and-or-kind, and-or-lower, and-or-deals}
 use Rattle.retape_pairs.specs.Mirror.{st, further, and-on, gate-on}
 use Rattle.retape_pairs.proofs.kind_step.Statement.{statement}
 use Rattle.retape_pairs.proofs.kind_step.Tie as tie

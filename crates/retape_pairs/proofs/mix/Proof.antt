@@ -4,7 +4,7 @@ use Rattle.retape_pairs.proofs.mix.Statement.{statement}
 use Rattle.retape_pairs.proofs.mix.Tie as tie
 
 returns : tie.Need-returns
-returns c = let a = c .before .before .before .before .before .before .before .before .before .before .before .before .before .before .before .args in mix-law (a .own .now) (a .next .now) (a .prev .now) (a .at) (a .p) (a .q) (a .u) (a .v) (a .y) (a .z) _ _ _ _ _ (c .before .before .before .before .before .before .before .before .before .before .before .next-product .ensures) (c .before .before .before .before .before .before .before .before .before .before .next-product2 .ensures) (c .before .before .before .before .before .before .before .before .before .product .ensures) (c .before .before .before .before .before .before .before .before .deal .ensures) (c .before .before .before .before .before .before .before .deal2 .ensures)
+returns c = let a = c .before .before .before .before .before .before .before .before .before .before .before .before .before .before .before .args in mix-law (a .own .now) (a .next .now) (a .prev .now) (a .at) (a .p) (a .q) (a .u) (a .v) (a .y) (a .z) _ _ _ _ _ (c .before .before .before .before .before .before .before .before .before .before .before .next-product .ensures) (c .before .before .before .before .before .before .before .before .before .before .change .ensures) (c .before .before .before .before .before .before .before .before .before .product .ensures) (c .before .before .before .before .before .before .before .before .deal .ensures) (c .before .before .before .before .before .before .before .deal2 .ensures)
 
 pub mix-spec : {M : Type 1} → statement M
 mix-spec =

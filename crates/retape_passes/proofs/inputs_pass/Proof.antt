@@ -9,7 +9,7 @@ use Rattle.retape_pairs.specs.Mirror.{st}
 use Rattle.file_parts.proofs.LoopLaws.{at-end}
 use Rattle.retape_passes.specs.Mirror.{in-state}
 use Rattle.retape_passes.proofs.StateLaws.{in-start}
-use Rattle.retape_passes.proofs.WalkLaw.{in-fits, in-turn}
+use Rattle.retape_passes.proofs.BothPasses.{in-fits, in-turn}
 use Rattle.retape_passes.proofs.inputs_pass.Statement.{statement}
 use Rattle.retape_passes.proofs.inputs_pass.Tie as tie
 

@@ -1,7 +1,7 @@
 use borrow.Author.Needs.{needs}
 use mathlib.Core.Path.{_∙_}
 use Rattle.retape_pairs.specs.Mirror.{st}
-use Rattle.retape_passes.proofs.WalkLaw.{gates-fit, walked}
+use Rattle.retape_passes.proofs.BothPasses.{gates-fit, walked}
 use Rattle.retape_passes.proofs.pass.Statement.{statement}
 use Rattle.retape_passes.proofs.pass.Tie as tie
 

@@ -5,7 +5,7 @@ use mathlib.Core.Path.{_≡_, refl, _∙_}
 use Rattle.file_parts.specs.Loop.{up-to}
 use Rattle.file_parts.proofs.LoopLaws.{none-yet, turn, at-end}
 use Rattle.run_passes.specs.Mirror.{st, gates-on}
-use Rattle.run_passes.proofs.EngineLaws.{room-at}
+use Rattle.run_passes.proofs.PassLaws.{room-at}
 use Rattle.run_passes.proofs.gates_pass.Statement.{statement}
 use Rattle.run_passes.proofs.gates_pass.Tie as tie
 

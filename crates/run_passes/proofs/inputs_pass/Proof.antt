@@ -6,7 +6,7 @@ use mathlib.Core.Path.{_≡_, refl, _∙_}
 use Rattle.file_parts.specs.Loop.{up-to}
 use Rattle.file_parts.proofs.LoopLaws.{none-yet, turn, at-end}
 use Rattle.run_passes.specs.Mirror.{st, inputs-on}
-use Rattle.run_passes.proofs.EngineLaws.{in-room-at}
+use Rattle.run_passes.proofs.PassLaws.{in-room-at}
 use Rattle.run_passes.proofs.inputs_pass.Statement.{statement}
 use Rattle.run_passes.proofs.inputs_pass.Tie as tie
 

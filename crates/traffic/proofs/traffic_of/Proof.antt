@@ -10,7 +10,7 @@ returns c =
     (zeros-are _ _ _ _ (e .0) (c .enum-told .given .1), numbers-are _ _ _ (e .0) (e .1) (c .before .before .refusal-of .ensures))
 
 whole-table-requires : tie.Need-whole-table-requires
-whole-table-requires c κs = checked-from (c .before .before .before .before .check-file .result) _ _ (c .before .h .given .1) (c .before .before .before .before .check-file .ensures .1) .opened
+whole-table-requires c κs = checked-from (c .before .before .before .before .check-file .result) _ _ (c .before .h .given .1) (c .before .before .before .before .check-file .ensures .1)
 
 returns-2 : tie.Need-returns-2
 returns-2 c =

@@ -9,7 +9,7 @@ use Rattle.view.proofs.fill_view.Tie as tie
 own-inputs-requires : tie.Need-own-inputs-requires
 own-inputs-requires c κs =
     let p = c .before .before .before .before .before .before .pre in let a = c .before .before .before .before .before .before .args in
-    (p .1 .1 .seeing .checked .opened, p .1 .1 .lx, own-part (a .file .now) (a .inputs .now) (a .tapes .now) (site-of (a .site)) (a .view .now) (a .c) _ (a .pos) (a .own) (a .d) (a .e) (a .t) (a .u) (p .0) (p .1 .1))
+    (p .1 .1 .seeing .checked, p .1 .1 .lx, own-part (a .file .now) (a .inputs .now) (a .tapes .now) (site-of (a .site)) (a .view .now) (a .c) _ (a .pos) (a .own) (a .d) (a .e) (a .t) (a .u) (p .0) (p .1 .1))
 
 delivered-requires : tie.Need-delivered-requires
 delivered-requires c κs =

@@ -2,7 +2,7 @@ use borrow.Author.Needs.{needs}
 use native.Mathlib.Omega.{arith}
 use Rattle.file_parts.proofs.ReaderLaws.{gate-none}
 use Rattle.file_parts.proofs.CheckedLaws.{gate-is}
-use Rattle.run_passes.proofs.EngineLaws.{gate-below}
+use Rattle.run_passes.proofs.PassLaws.{gate-below}
 use Rattle.view_gates.proofs.gate_step.Statement.{statement}
 use Rattle.view_gates.proofs.gate_step.Tie as tie
 

@@ -4,7 +4,7 @@ use Prim.Native.Nat.{ℕ}
 use Rattle.theory_sharing.specs.Circuit.{Gate}
 use Rattle.theory_calls.specs.File.{site-of}
 use Rattle.run_passes.specs.Mirror.{st}
-use Rattle.run_passes.proofs.EngineLaws.{xor-kind, not-kind, and-or-kind, and-or-lower, and-or-deals}
+use Rattle.run_passes.proofs.PassLaws.{xor-kind, not-kind, and-or-kind, and-or-lower, and-or-deals}
 use Rattle.view_inputs.specs.Mirror.{and-seen, gate-seen}
 use Rattle.view_gates.proofs.kind_step.Statement.{statement}
 use Rattle.view_gates.proofs.kind_step.Tie as tie

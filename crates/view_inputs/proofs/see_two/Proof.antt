@@ -1,5 +1,5 @@
 use borrow.Author.Needs.{needs}
-use Rattle.view_inputs.proofs.SeenLaws.{seen-two, seen-own}
+use Rattle.view_inputs.proofs.InputsSeen.{seen-two, seen-own}
 use Rattle.view_inputs.proofs.see_two.Statement.{statement}
 use Rattle.view_inputs.proofs.see_two.Tie as tie
 

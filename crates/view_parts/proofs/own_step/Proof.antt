@@ -1,6 +1,6 @@
 use borrow.Author.Needs.{needs}
 use native.Mathlib.Omega.{arith}
-use Rattle.view_parts.proofs.ShownLaws.{own-no, own-yes}
+use Rattle.view_parts.proofs.OwnInputs.{own-no, own-yes}
 use Rattle.view_parts.proofs.own_step.Statement.{statement}
 use Rattle.view_parts.proofs.own_step.Tie as tie
 

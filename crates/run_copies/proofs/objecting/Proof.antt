@@ -1,8 +1,8 @@
 use borrow.Author.Needs.{needs}
 use Rattle.run_messages.specs.Mirror.{objects-of}
 use Prim.Native.Nat.{_+_}
-use Rattle.run_messages.proofs.objecting.Statement.{statement}
-use Rattle.run_messages.proofs.objecting.Tie as tie
+use Rattle.run_copies.proofs.objecting.Statement.{statement}
+use Rattle.run_copies.proofs.objecting.Tie as tie
 
 returns : tie.Need-returns
 unfolding objects-of

@@ -20,7 +20,7 @@ use Rattle.theory_calls.specs.File.{circuit}
 use Rattle.theory_calls.specs.Calls.{at-wire}
 use Rattle.file_header.specs.declared.Counts.{Counts}
 use Rattle.file_header.specs.Opened.{Opened}
-use Rattle.run_passes.proofs.EngineLaws.{owned-room}
+use Rattle.run_passes.proofs.PassLaws.{owned-room}
 use Rattle.view_inputs.proofs.InsLaws.{one-or-none}
 use Rattle.view_parts.specs.Mirror.{put-own}
 

@@ -1,5 +1,5 @@
 -- What the proofs of the passes cite.
---     and-law                         AND and OR, from what each stage gives
+--     and-law                         AND and OR, with the places after them
 --     lower-of                        a good gate reads lower wires
 --     xor-kind, not-kind    the gate that a kind's number means;  and-or-kind, and-or-lower, and-or-deals: the others, AND and OR together
 --     gate-lower                      the gate that was read reads lower wires
@@ -27,18 +27,17 @@ use Rattle.file_parts.proofs.ReaderLaws.{gate-some}
 use Rattle.file_parts.specs.Checked.{Checked}
 use Rattle.file_parts.proofs.SiteLaws.{by-number}
 use Rattle.file_parts.proofs.CheckedLaws.{operands-lower}
-use Rattle.run_messages.specs.Mirror.{line-at}
-use Rattle.run_steps.specs.Mirror.{or-bit, sends, takes, on-lines, put-twelve}
-use Rattle.run_messages.specs.declared.Twelve.{Twelve}
+use Rattle.run_steps.specs.Mirror.{or-bit, sends, delivers, takes, put-twelve}
 use Rattle.file_parts.specs.Loop.{up-to}
 use Rattle.run_passes.specs.declared.Pos.{Pos}
 use Rattle.run_passes.specs.Mirror.{St, st, placed, next-pos, and-on, gate-on, Lower, Room, gates-on, own-place, in-pos, input-on, inputs-on, InRoom}
 
-pub and-law : (tapes line : List ℕ) (n a b w o : ℕ) (pos : Pos) (store tr : List ℕ) (s g : Twelve) (d l : List ℕ) (p : Pos)
-    → s ≡ sends bits tapes n a b o (pos .t1) (pos .t2) (pos .t3) store → g ≡ on-lines bits (line-at line (pos .at)) s → d ≡ put-twelve (pos .at) g tr
-    → l ≡ takes bits n w o s g store → p ≡ next-pos pos → st l d p ≡ and-on tapes line n a b w o (st store tr pos)
+pub and-law : (tapes line : List ℕ) (n a b w o : ℕ) (pos : Pos) (store tr d l : List ℕ) (p : Pos)
+    → l ≡ takes bits n w o (sends bits tapes n a b o (pos .t1) (pos .t2) (pos .t3) store) (delivers bits tapes line n a b o (pos .t1) (pos .t2) (pos .t3) (pos .at) store) store
+    → d ≡ put-twelve (pos .at) (delivers bits tapes line n a b o (pos .t1) (pos .t2) (pos .t3) (pos .at) store) tr
+    → p ≡ next-pos pos → st l d p ≡ and-on tapes line n a b w o (st store tr pos)
 unfolding and-on
-and-law tapes line n a b w o pos store tr s g d l p h1 h2 h3 h4 h5 = cc
+and-law tapes line n a b w o pos store tr d l p h1 h2 h3 = λ i. st (h1 i) (h2 i) (h3 i)
 
 -- whatever its kind, both its numbers are lower wires
 kind-lowers : (kind a b w : ℕ) → (a < w) × (b < w) → Lower (gate-of kind a b) w

@@ -1,7 +1,7 @@
 use Rattle.run_messages.specs.Mirror.{opened-of}
 use mathlib.Core.Path.{refl}
-use Rattle.run_messages.proofs.opened.Statement.{statement}
-use Rattle.run_messages.proofs.opened.Tie as tie
+use Rattle.run_copies.proofs.opened.Statement.{statement}
+use Rattle.run_copies.proofs.opened.Tie as tie
 
 returns : tie.Need-returns
 unfolding opened-of

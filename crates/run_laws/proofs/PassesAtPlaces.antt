@@ -23,7 +23,7 @@ use Rattle.run_messages.specs.declared.Four.{Four}
 use Rattle.run_steps.specs.Mirror.{put-four, put-held}
 use Rattle.run_passes.specs.declared.Pos.{Pos}
 use Rattle.run_passes.specs.Mirror.{St, st, and-on, gate-on, in-pos, input-on}
-use Rattle.run_passes.proofs.EngineLaws.{placed-eq, one-more, in-pos-is}
+use Rattle.run_passes.proofs.PassLaws.{placed-eq, one-more, in-pos-is}
 use Rattle.run_laws.specs.Loops.{place, in-places, in-place}
 use Rattle.run_laws.specs.Places.{Operands, moved, gate-at, tell-at, puts, Live, wire-of, as-is, stored}
 use Rattle.run_laws.proofs.FillLaws.{put-link4}

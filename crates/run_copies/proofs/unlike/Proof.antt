@@ -1,7 +1,7 @@
 use borrow.Author.Tests.{eq-eqb, ne-eqb}
 use native.Mathlib.Omega.{arith}
-use Rattle.run_messages.proofs.unlike.Statement.{statement}
-use Rattle.run_messages.proofs.unlike.Tie as tie
+use Rattle.run_copies.proofs.unlike.Statement.{statement}
+use Rattle.run_copies.proofs.unlike.Tie as tie
 
 returns : tie.Need-returns
 returns c = (simp (eq-eqb _ _ (c .if1 .taken)), omega arith)

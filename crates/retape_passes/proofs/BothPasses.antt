@@ -34,7 +34,7 @@ use Rattle.file_header.specs.declared.Counts.{Counts}
 use Rattle.file_header.specs.Opened.{Opened}
 use Rattle.file_parts.specs.Checked.{Checked}
 use Rattle.run_passes.specs.Mirror.{Lower}
-use Rattle.run_passes.proofs.EngineLaws.{lower-of, ands-room, owned-room}
+use Rattle.run_passes.proofs.PassLaws.{lower-of, ands-room, owned-room}
 use Rattle.retape_pairs.specs.Mirror.{Fits, St, gate-on}
 use Rattle.retape_pairs.proofs.PairLaws.{places-eq}
 use Rattle.file_parts.specs.Loop.{up-to}

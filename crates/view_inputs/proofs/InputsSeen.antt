@@ -32,9 +32,9 @@ use Rattle.run_laws.specs.Places.{as-is, stored}
 use Rattle.run_laws.specs.Loops.{in-places, in-place}
 use Rattle.run_laws.proofs.GateReads.{bits-zero}
 use Rattle.run_laws.proofs.FillLaws.{fill-two}
-use Rattle.run_laws.proofs.EngineRuns.{st-eq}
+use Rattle.run_laws.proofs.PassesAtPlaces.{st-eq}
 use Rattle.run_laws.proofs.StoredLaws.{input-stored}
-use Rattle.run_passes.proofs.EngineLaws.{in-pos-is, one-more}
+use Rattle.run_passes.proofs.PassLaws.{in-pos-is, one-more}
 use Rattle.run_laws.proofs.DrawLaws.{in-place-suc, deal-is}
 use Rattle.view_inputs.specs.Mirror.{pair-of-site, put-two, see-two, past-two, with-at, input-seen, ins-seen}
 
