@@ -3,13 +3,13 @@
 --     Wrong                          a call, and what a wrong program gives
 --     gated k a b, owned-by a b      K's circuit with another gate, of kind k on a and b; with other owners
 --     two-outputs                    two inputs, of sites 1 and 2, each an output; no gate
---     wrong-reads                    those of the reader, plain values, traffic and listing; of run, view and re-taping: WrongRuns.antt
+--     wrong-reads                    those of the reader, the check, plain values, traffic and listing; of run, view and re-taping: WrongRuns.antt
 use mathlib.Core.List.{List, [], _∷_, _++_}
 use Prim.Native.Nat.{ℕ}
 use lib.ListN.{take, drop, set}
 use Rattle.theory_calls.specs.Answer.{good, refused, After}
 use Rattle.theory_sharing.specs.Store.{fill}
-use Rattle.theory_calls.specs.Calls.{Call, Open, GateAt, OwnerAt, OutputAt, Plain, Traffic, Listing}
+use Rattle.theory_calls.specs.Calls.{Call, Open, GateAt, OwnerAt, OutputAt, Check, Plain, Traffic, Listing}
 use Rattle.theory_demands.specs.Marked.{K-file, K-with, K-job, untouched, stopped-with, good-with, good-returns}
 
 pub record Wrong : Type 0 where
@@ -91,6 +91,38 @@ abbrev pub output-place-is-the-gates : Wrong
 output-place-is-the-gates = record {
   call = OutputAt two-outputs 7;
   gives = stopped-with (refused 6 0) [];
+}
+
+-- The place of a bad gate is one off: that of the owners' search.
+-- check_circuit: `return Header::Refused(5, g);` → `return Header::Refused(5, i);`
+abbrev pub gate-fault-at-the-owners-place : Wrong
+gate-fault-at-the-owners-place = record {
+  call = Check (K-with 0 2);
+  gives = stopped-with (refused 5 2) [];
+}
+
+-- An operand compared with W instead of with its own wire.
+-- check_circuit: `let w = c.inputs + k;` → `let w = c.inputs + c.gates;`
+abbrev pub operand-below-w : Wrong
+operand-below-w = record {
+  call = Check (K-with 0 2);
+  gives = stopped-with (good (2 ∷ 1 ∷ 1 ∷ [])) [];
+}
+
+-- An owner of 4 passes.
+-- check_circuit: `!((1 <= o) & (o <= 3))` → `!((1 <= o) & (o <= 4))`
+abbrev pub owner-four : Wrong
+owner-four = record {
+  call = Check (owned-by 1 4);
+  gives = stopped-with (good (2 ∷ 1 ∷ 1 ∷ [])) [];
+}
+
+-- A bad owner is refused with a gate's number.
+-- check_circuit: `return Header::Refused(4, i);` → `return Header::Refused(5, i);`
+abbrev pub owners-refused-as-gates : Wrong
+owners-refused-as-gates = record {
+  call = Check (owned-by 1 4);
+  gives = stopped-with (refused 5 1) [];
 }
 
 -- A buffer of more than W bytes is taken.
@@ -183,6 +215,10 @@ wrong-reads =
     ∷ owner-refused-as-a-gate
     ∷ outputs-of-one-byte
     ∷ output-place-is-the-gates
+    ∷ gate-fault-at-the-owners-place
+    ∷ operand-below-w
+    ∷ owner-four
+    ∷ owners-refused-as-gates
     ∷ longer-buffer-passes
     ∷ or-as-xor
     ∷ refusal-says-good
