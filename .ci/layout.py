@@ -247,12 +247,12 @@ def answer_problems():
     if not seen:
         yield "no wrong answer is seen"
     text = "".join(path.read_text() for path in sorted((ROOT / "crates" / "theory_wrong").glob("*/*.antt")))
-    rows = re.findall(r"^((?:--.*\n)*)(?:abbrev )?pub (\S+) : (Wrong|WrongTold|¬.*)$", text, re.M)
-    members = set(re.findall(r"[\w-]+", " ".join(re.findall(r"^wrong-(?:reads|runs|tolds) =((?:.|\n +)*)", text, re.M))))
-    for above, name, kind in rows:
-        if not kind.startswith("¬") and name not in members:
+    rows = re.findall(r"^((?:--.*\n)*)(?:abbrev )?pub (\S+) : (Wrong|WrongTold|WrongStruct)$", text, re.M)
+    members = set(re.findall(r"[\w-]+", " ".join(re.findall(r"^wrong-(?:reads|runs|tolds|structs) =((?:.|\n +)*)", text, re.M))))
+    for above, name, _ in rows:
+        if name not in members:
             yield f"crates/theory_wrong: the wrong answer {name} is in no list, so that no theorem speaks of it"
-        if (not kind.startswith("¬") or "told-" in kind) and not CHANGED.search(above):
+        if not CHANGED.search(above):
             yield f"crates/theory_wrong: the wrong answer {name} does not say what is changed"
 
 

@@ -16,7 +16,7 @@ use lib.ListN.{length, length-append}
 use Rattle.theory_sharing.specs.Circuit.{Circuit}
 use Rattle.theory_sharing.specs.Traffic.{table-total}
 use Rattle.theory_calls.specs.Listing.{decimal, word-inputs, word-gates, word-outputs, word-bits, word-out, word-end, word-refused, space, LF, out-lines, good-text}
-use Rattle.theory_calls.proofs.Digits.{decimal-length, lines-length, line-out as out-short}
+use Rattle.theory_calls.proofs.Digits.{decimal-length, digits-few, lines-length, line-out as out-short}
 use Rattle.listing_text.specs.Mirror.{write, line-of, counts-of, head-of, lines-of, shown-of, OneDigit}
 use Rattle.listing_text.proofs.WriteLaws.{write-none, Put, Filled, put-filled, filled-put, put-put}
 
@@ -115,9 +115,4 @@ module _ (i g o : ℕ) where
   head-length t = simp length-append (omega arith)
 
   pub head-room : (t : ℕ) → i ≤ 1024 → g ≤ 3072 → o ≤ 256 → t ≤ 41728 → length (head-of i g o t) ≤ 46
-  head-room t hi hg ho ht =
-      let a : length (decimal i) ≤ 4 = decimal-length 3 i (omega arith) in
-      let b : length (decimal g) ≤ 4 = decimal-length 3 g (omega arith) in
-      let c : length (decimal o) ≤ 3 = decimal-length 2 o (omega arith) in
-      let d : length (decimal t) ≤ 5 = decimal-length 4 t (omega arith) in
-      let k = counts-length in let h = head-length t in omega arith
+  head-room t hi hg ho ht = let d = digits-few i g o t hi hg ho ht in let k = counts-length in let h = head-length t in omega arith

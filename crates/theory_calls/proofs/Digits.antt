@@ -3,6 +3,7 @@
 --     decimal-length                 a number below ten to the k has at most k digits
 --     one-digit, more-digits         the same of their number
 --     line-out, lines-length         an output's line has at most 10 bytes
+--     digits-few                     the four numbers of a text have at most 16 digits
 --     text-short                     a text has at most 2,610, so a buffer of 2,624 holds it
 -- Assumes nothing.
 use mathlib.Core.Path.{_≡_, refl, ap, _∙_}
@@ -79,14 +80,20 @@ module _ (shown : ℕ → ℕ) (n : ℕ) (one : (o : ℕ) → o < n → shown o 
       let e = length-append (out-lines shown k) (word-out ++ decimal k ++ space ++ decimal (shown k) ++ LF) in
       omega arith
 
+-- the digits of a circuit's counts and of its traffic total
+pub digits-few : (i g o t : ℕ) → i ≤ 1024 → g ≤ 3072 → o ≤ 256 → t ≤ 41728 → length (decimal i) + length (decimal g) + length (decimal o) + length (decimal t) ≤ 16
+digits-few i g o t hi hg ho ht =
+    let a : length (decimal i) ≤ 4 = decimal-length 3 i (omega arith) in
+    let b : length (decimal g) ≤ 4 = decimal-length 3 g (omega arith) in
+    let c : length (decimal o) ≤ 3 = decimal-length 2 o (omega arith) in
+    let d : length (decimal t) ≤ 5 = decimal-length 4 t (omega arith) in
+    omega arith
+
 pub text-short : (C : Circuit) (shown : ℕ → ℕ) → C .ins ≤ 1024 → C .gates ≤ 3072 → C .outs ≤ 256 → table-total C ≤ 41728
     → ((o : ℕ) → o < C .outs → shown o ≤ 9) → length (good-text C shown) ≤ 2610
 unfolding good-text
 text-short C shown hi hg ho ht one =
-    let a : length (decimal (C .ins)) ≤ 4 = decimal-length 3 (C .ins) (omega arith) in
-    let b : length (decimal (C .gates)) ≤ 4 = decimal-length 3 (C .gates) (omega arith) in
-    let c : length (decimal (C .outs)) ≤ 3 = decimal-length 2 (C .outs) (omega arith) in
-    let d : length (decimal (table-total C)) ≤ 5 = decimal-length 4 (table-total C) (omega arith) in
+    let d = digits-few (C .ins) (C .gates) (C .outs) (table-total C) hi hg ho ht in
     let l = lines-length shown (C .outs) one ho (C .outs) (omega arith) in
     let k : length (word-inputs ++ decimal (C .ins) ++ word-gates ++ decimal (C .gates) ++ word-outputs ++ decimal (C .outs) ++ LF
     ++ word-bits ++ decimal (table-total C) ++ LF ++ out-lines shown (C .outs) ++ word-end ++ LF)

@@ -35,16 +35,16 @@ use Rattle.theory_calls.specs.Answer.{Answer, good, abort, refused, After}
 use Rattle.theory_wrong.specs.WrongReads.{Wrong, wrong-reads}
 use Rattle.theory_wrong.specs.WrongRuns.{wrong-runs}
 
--- something holds of none of a list
-unfoldable pub NoneOf : {A : Type 0} → (A → Type 0) → List A → Type 0
-NoneOf P [] = Unit {0}
-NoneOf P (x ∷ xs) = (¬ P x) × NoneOf P xs
+-- something holds of none of a list; none, where a test tells so of each
+module _ {ℓ} {A : Type ℓ} (P : A → Type 0) where
+  unfoldable pub NoneOf : List A → Type 0
+  NoneOf [] = Unit {0}
+  NoneOf (x ∷ xs) = (¬ P x) × NoneOf xs
 
--- none, where a test tells so of each
-pub none-by : {A : Type 0} (P : A → Type 0) (test : A → Bool) → ((x : A) → test x ≡ true → ¬ P x) → (l : List A) → map test l ≡ map (λ (x : A). true) l → NoneOf P l
-unfolding NoneOf
-none-by P test tells [] h = tt
-none-by P test tells (x ∷ xs) h = (tells x (ap (λ (l : List Bool). getD l 0 false) h), none-by P test tells xs (ap (drop 1) h))
+  pub none-by : (test : A → Bool) → ((x : A) → test x ≡ true → ¬ P x) → (l : List A) → map test l ≡ map (λ (x : A). true) l → NoneOf l
+  unfolding NoneOf
+  none-by test tells [] h = tt
+  none-by test tells (x ∷ xs) h = (tells x (ap (λ (l : List Bool). getD l 0 false) h), none-by test tells xs (ap (drop 1) h))
 
 -- a wrong answer is what its call does
 abbrev pub Met : Wrong → Type 0
