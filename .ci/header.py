@@ -5,7 +5,9 @@
   is a number and no call, by the first alone.
 - Every struct that goes out (crates/door_answers, #[repr(C)]) has the same members, of the same types, in the same order.
 - Good, abort, the refusals' numbers, the order of checks and what each call checks are those of crates/theory_calls/specs and crates/theory_demands/specs.
-- Limits, kinds, the job's and the text's lengths are those of the code that tests them.
+- The call on a text has an order of its own, that of crates/bristol_text/specs: told in the same words above the table and beside the call, with the
+  refusals that are by line and those with the number of lines, and so are their places. Its room is as long as its block says.
+- Limits, kinds, the job's and the listing's lengths are those of the code that tests them.
 - Each length's macro gives what door_answers::sizes_from and the header's own check compute, and each _MAX what the largest circuit needs.
 - The header defines no function but bakebutton_words, which .ci/words.py tries.
 - The Rust crate declares functions of the header, structs of the same members, and the same numbers.
@@ -18,6 +20,9 @@ import sys
 
 ROOT = pathlib.Path(__file__).resolve().parent.parent
 HEADER = (ROOT / "include" / "bakebutton.h").read_text()
+CHECKS = "crates/theory_calls/specs/Checks.antt"
+TEXT, HEARD = "crates/bristol_text/specs/Call.antt", "crates/bristol_text/specs/Heard.antt"  # the call on a text, and what is wrong with a line of it
+OWN = {"lines-check": "by line", "end-checks": "with the number of lines"}  # how the header tells them
 NUMBERS = {"usize": "size_t", "u8": "uint8_t", "u16": "uint16_t", "u32": "uint32_t"}
 TABLE = "uint32_t bits[3][3]"  # the same nine numbers as [u32; 9], row after row
 
@@ -72,27 +77,68 @@ def list_of(text):
     return [int(number) for number in re.findall(r"\d+", text)]
 
 
-def numbers_in(text, named):
-    """The numbers of a list of checks, in its order: each is `refusal N ..`, or stands for its own by its name."""
+def bodies(path, names):
+    """What stands behind the = of each definition whose name is so, up to a blank line, comments left out."""
+    text = re.sub(r" *--.*", "", source(path))
+    return re.findall(rf"^({names})(?: [^=\n]*)? =(.*?)(?:\n\n|\Z)", text, re.S | re.M)
+
+
+def row_places(row):
+    """The places of a row that has few of them; none for a row over an index. A row may be another one on numbers of its own."""
+    (_, body), = bodies(CHECKS, row)
+    other = re.match(r"\s*([\w-]+-row) ", body)
+    return row_places(other.group(1)) if other else [int(place) for place in re.findall(r"[(∷] ?\((\d+), not", body)]
+
+
+def line_numbers():
+    """The refusals that a line of a text can get, in their order on one line."""
+    clauses = re.findall(r"^(?:line-fault|within|two-fault|one-fault) [^=\n]*= (.*)$", source(HEARD), re.M)
+    return sorted({int(number) for clause in clauses for number in re.findall(r"\b[1-9]\d*\b", clause)})
+
+
+def checks_in(text, named):
+    """A list of checks in its order, each as how it is told and its number: it is `refusal N ..`, or stands for its own by its name."""
     found = re.findall(r"\brefusal (\d+) |(?<![\w-])([\w-]+-checks?)(?![\w-])", text)
-    return [n for number, name in found for n in ([int(number)] if number else named[name])]
+    return [check for number, name in found for check in ([("", int(number))] if number else named[name])]
+
+
+def named_checks():
+    named = {}
+    for path in (CHECKS, TEXT):
+        for name, body in bodies(path, r"\S+-checks?"):
+            own = [("", number) for number in line_numbers()] if "number = fault-at" in body else checks_in(body, named)
+            named[name] = [(OWN.get(name, how), number) for how, number in own]
+    return named
+
+
+def blocks():
+    """Each call's checks, by the name of its block, in whatever crate that stands."""
+    named = named_checks()
+    text = "\n".join(path.read_text() for path in sorted((ROOT / "crates").glob("*/specs/*.antt")))
+    calls = re.findall(r"^unfoldable pub (\w+?)(?:Of)? : [^\n]*→ Call$.*?checks =(.*?)buffers =", text, re.M | re.S)
+    return {name: checks_in(checks, named) for name, checks in calls}
 
 
 def orders():
-    """Each call's checks in their order, by the name of its block, in whatever crate that stands."""
-    named = {}
-    for name, body in re.findall(r"^(\S+-checks?) [^=\n]*= (.*)$", source("crates/theory_calls/specs/Checks.antt"), re.M):
-        named[name] = numbers_in(body, named)
-    text = "\n".join(path.read_text() for path in sorted((ROOT / "crates").glob("*/specs/*.antt")))
+    """The one order of the calls on a circuit file or a job, and the numbers of each call's checks in their order."""
     fixed = list_of(re.search(r"^fixed-order = (.*)$", source("crates/theory_demands/specs/Public.antt"), re.M).group(1))
-    calls = re.findall(r"^unfoldable pub (\w+?)(?:Of)? : [^\n]*→ Call$.*?checks =(.*?)buffers =", text, re.M | re.S)
-    return fixed, {name: numbers_in(checks, named) for name, checks in calls}
+    return fixed, {name: [number for _, number in checks] for name, checks in blocks().items()}
+
+
+def told(checks):
+    """A call's checks as the header tells them: 10, then by line 15, 16, 17, then ..."""
+    groups = []
+    for how, number in checks:
+        if not groups or groups[-1][0] != how:
+            groups.append((how, []))
+        groups[-1][1].append(str(number))
+    return ", then ".join(f"{how} {', '.join(numbers)}".strip() for how, numbers in groups)
 
 
 def promised():
     """The call that each exported function promises; none for one that is no call."""
     for name, contract in re.findall(r'pub extern "C" fn bakebutton_(\w+)\([^{]*?ensures (.*?)\n\{', source("crates/door/src/lib.rt"), re.S):
-        found = re.search(r"\bdoes \((\w+)|\bTells(?:Text)?\b[^⌝]*?\(([A-Z]\w*) ", contract)
+        found = re.search(r"\bdoes \((\w+)|\bTells\w*\b[^⌝]*?\(([A-Z]\w*) ", contract)
         if found:
             yield name, found.group(1) or found.group(2)
 
@@ -177,9 +223,12 @@ def rust_problems(wanted, given):
     for name in wanted:
         if name + "(" not in source("evaluator/door.c"):
             yield f"evaluator/door.c does not ask {name}"
-    for name in ("GOOD", "ABORT", "TEXT_BYTES"):
+    for name in ("GOOD", "ABORT", "TEXT_BYTES", "FILE_ROOM_BYTES"):
         if f"const {name}: usize = {defined(name)};" not in text:
             yield f"{RUST}: {name} is not {defined(name)}"
+    for name in ("TEXT_BYTES", "FILE_ROOM_BYTES"):
+        if f"\n{name} = {defined(name)}  #" not in package:
+            yield f"python/bakebutton/calls.py: {name} is not {defined(name)}"
 
 
 def version_problems():
@@ -204,7 +253,32 @@ def version_problems():
 def comment_before(declaration):
     """The comment right before a declaration."""
     head = HEADER[:HEADER.index(declaration)]
-    return flat(head[head.rindex("/*"):])
+    return flat(re.sub(r"^ \*", " ", head[head.rindex("/*"):], flags=re.M))
+
+
+def text_problems(table):
+    """Of the call on a text, whose checks have an order of their own."""
+    own = blocks()["FromBristol"]
+    order, head = told(own), comment_before("#ifndef BAKEBUTTON_H\n")
+    if f" A text has an order of its own: {order}. " not in head:
+        yield f"the comment on the order of checks does not say that a text has {order}"
+    declaration = "struct bakebutton_file_answer bakebutton_from_bristol("
+    if HEADER.count(declaration) != 1 or f" Checks {order}. " not in comment_before(declaration):
+        yield f"the comment on bakebutton_from_bristol does not say: Checks {order}"
+    (_, ends), = bodies(TEXT, "end-checks")
+    (_, checks), = bodies(TEXT, "text-checks")
+    behind = [number for how, number in own if how == OWN["end-checks"]]
+    if list_of(" ".join(re.findall(r"refusal (\d+) \(at-places \(suc n\) \(\(n, not", ends))) != behind or "end-checks (length ls) " not in checks:
+        yield f"the places of {behind} behind a text's lines are not the number of lines"
+    for number in line_numbers():
+        place = "line number" + (", else number of lines" if number in behind else "")
+        if not re.search(rf"  {place}$", table.get(number, "")):
+            yield f"the place of {number} is {place}"
+    if ("", 4) in own and HEADER.count("  count of input values, else value number\n") != 1:
+        yield "the comment's table does not say what the place of 4 is for a text"
+    (_, room), = bodies(TEXT, "room-bytes")
+    if defined("FILE_ROOM_BYTES") != int(room):
+        yield f"a text's file is lent {room.strip()} bytes"
 
 
 def problems():
@@ -236,16 +310,16 @@ def problems():
         if defined(name) != number:
             yield f"BAKEBUTTON_{name} is not {number}"
 
-    count = len(orders()[0])
+    every = sorted({*orders()[0], *orders()[1]["FromBristol"]})
+    count = len(every)
     numbers = [int(n) for n in re.findall(r"^#define BAKEBUTTON_REFUSED_\w+ (\d+)$", HEADER, re.M)]
-    if numbers != list(range(1, count + 1)) or sorted(orders()[0]) != numbers:
-        yield f"the refusals' numbers are {numbers}, and there are {count} in the one order"
-    table = {int(n): flat(text) for n, text in re.findall(r"^ \*\s+(\d+)   (\w.*)$", HEADER, re.M)}
+    if numbers != list(range(1, count + 1)) or every != numbers:
+        yield f"the refusals' numbers are {numbers}, and those of the definitions {every}"
+    table = {int(n): text.rstrip() for n, text in re.findall(r"^ \*\s+(\d+)   (\w.*)$", HEADER, re.M)}
     if list(table) != numbers:
         yield f"the comment's table of refusals has {list(table)}"
     for row, number in (("row-short", 1), ("row-large", 2), ("row-field", 3), ("row-site", 11), ("row-job", 14)):
-        body = re.search(rf"^{row} \w+ =(.*?)\n\n", source("crates/theory_calls/specs/Checks.antt"), re.S | re.M).group(1)
-        places = re.findall(r"[(∷] ?\((\d+), not", body)
+        places = [str(place) for place in row_places(row)]
         said = (", ".join(places[:-1]) + " or " if places[1:] else "") + places[-1]
         if not re.search(rf"(?:^|\s){said}$", table[number]):
             yield f"the places of {number} are {said}"
@@ -259,22 +333,24 @@ def problems():
     if weights != [1, 2, 4] or not shift or HEADER.count("a sum of 1, 2 and 4 for sites 1, 2 and 3") != 1:
         yield f"the sites' weights are {weights}"
 
+    yield from text_problems(table)
+
     fixed, order = orders()
-    line = re.search(r"ORDER OF CHECKS, the same for every call: ([\d, ]*),", HEADER).group(1)
-    if list_of(line) != fixed:
-        yield f"the order of checks is {fixed}"
+    line = re.search(r"ORDER OF CHECKS, the same for every call on a circuit file or a job: ([\d, ]*),", HEADER)
+    if not line or list_of(line.group(1)) != fixed:
+        yield f"the order of checks of every call on a circuit file or a job is {fixed}"
     for name, call in promised():
         if call not in order or "bakebutton_" + name not in declared:
             yield f"the block of {call}, which bakebutton_{name} promises, or its declaration is not found"
             continue
         want = order[call]
         text = comment_before(declared["bakebutton_" + name].split("(")[0] + "(")
-        said = re.search(r"Checks ((?:\d+, )*\d+)(?:; then (\d+) with place)?", text.replace(" *", ""))
+        said = re.search(r"Checks ((?:\d+, )*\d+)(?:; then (\d+) with place)?", text)
         have = list_of(said.group(1)) + ([int(said.group(2))] if said.group(2) else [])
-        if have != want:
+        if have != want and name != "from_bristol":  # whose words are held above
             yield f"the comment on bakebutton_{name} says checks {have}, which are {want}"
         lent = re.findall(r"(?<!const )uint8_t \*(\w+)", declared["bakebutton_" + name])
-        buffers = re.search(r"Lent: (.*?)(?:\.|;) ", re.sub(r" ?\([^)]*\)", "", text.replace(" *", "")))
+        buffers = re.search(r"Lent: (.*?)(?:\.|;) ", re.sub(r" ?\([^)]*\)", "", text))
         listed = re.findall(r"(\d) (\w+)", buffers.group(1)) if buffers else []
         if [(str(k), which) for k, which in enumerate(lent)] != listed:
             yield f"the comment on bakebutton_{name} does not say that lent are {lent}"

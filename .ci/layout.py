@@ -85,7 +85,7 @@ def unmarked():
 DECLARED = re.compile(r"^[ ]*(?:(?:unfoldable|abbrev)[ ]+)*pub[ ]+(\S+) :([^\n]*(?:\n[ ]+[^\n]*)*)", re.M)
 DATA = re.compile(r"^pub data (\w+) : Call → Type 0 where\n((?:[ ]+[^\n]*\n?)*)", re.M)
 MEMBER = re.compile(r"^  \S+ : (.*) → \w+ \((\S+)((?: \w+)*)\)$", re.M)
-PROMISED = re.compile(r"\bdoes \(([^\s()]+)|\bTells(?:Text)?\b[^⌝]*?\(([A-Z][^\s()]*) ")
+PROMISED = re.compile(r"\bdoes \(([^\s()]+)|\bTells\w*\b[^⌝]*?\(([A-Z][^\s()]*) ")
 WRONG = re.compile(r"^  call = (?:K-)?(\w+)", re.M)
 CALLS_ROW = re.compile(r"^\| \[`(\w+)`\]\(\.\./crates/[^)]+/specs/[^)]+\.antt\)", re.M)
 
@@ -188,7 +188,7 @@ def public_problems():
             yield f"{path}: public call {name} has a requires"
         if not re.search(r"^\s*ensures\b", contract, re.M):
             yield f"{path}: public call {name} promises nothing"
-        elif not NOTHING.search(contract) and not re.search(r"^\s*ensures\b.*\b(?:does \(|Tells |TellsText )", contract, re.M | re.S):
+        elif not NOTHING.search(contract) and not re.search(r"^\s*ensures\b.*\b(?:does \(|Tells\w* )", contract, re.M | re.S):
             yield f"{path}: public call {name} does not promise what its call does"
     rows = re.findall(r"^\|.*$", public_section(), re.M)
     named = set(PLACE.findall("\n".join(rows)))
@@ -248,7 +248,7 @@ def answer_problems():
         yield "no wrong answer is seen"
     text = "".join(path.read_text() for path in sorted((ROOT / "crates" / "theory_wrong").glob("*/*.antt")))
     rows = re.findall(r"^((?:--.*\n)*)(?:abbrev )?pub (\S+) : (Wrong|WrongTold|WrongStruct)$", text, re.M)
-    members = set(re.findall(r"[\w-]+", " ".join(re.findall(r"^wrong-(?:reads|runs|tolds|structs) =((?:.|\n +)*)", text, re.M))))
+    members = set(re.findall(r"[\w-]+", " ".join(re.findall(r"^wrong-(?:reads|runs|texts|tolds|structs) =((?:.|\n +)*)", text, re.M))))
     for above, name, _ in rows:
         if name not in members:
             yield f"crates/theory_wrong: the wrong answer {name} is in no list, so that no theorem speaks of it"
@@ -264,7 +264,7 @@ def trial_problems():
     import header
     import kinds
     import trials
-    rows = re.findall(r"^\| (\d+) \| (\w+) \| (?:file|job)", (ROOT / "docs" / "TRIALS.md").read_text(), re.M)
+    rows = re.findall(r"^\| (\d+) \| (\w+) \| (?:file|job|text)", (ROOT / "docs" / "TRIALS.md").read_text(), re.M)
     if damage.NAMES != forms:
         yield f"evaluator/stream.c has the calls {forms}, and evaluator/damage.py {damage.NAMES}"
     if sorted(trials.MADE) != sorted(forms):
@@ -276,7 +276,7 @@ def trial_problems():
         yield f"crates/trials/src/main.rt does not make the {len(forms)} calls"
     for name, call in header.promised():
         checks = set(header.orders()[1].get(call, ()))
-        asked = {4, 5, 6} if name in kinds.CHECKED else {kinds.QUESTIONS[name]} if name in kinds.QUESTIONS else set()
+        asked = {4, 5, 6} if name in kinds.CHECKED else {kinds.QUESTIONS[name]} if name in kinds.QUESTIONS else set(kinds.VALUES.get(name, ()))
         if name != "sizes" and checks & {4, 5, 6, 7, 8, 9, 12} != asked | set(kinds.BITS.get(name, ())):
             yield f"evaluator/kinds.py asks of {name} for other refusals than its checks have, {sorted(checks)}"
     for path, name, _ in public_calls():

@@ -87,8 +87,9 @@ def cases(folder, job, pipe, directory):
     yield "tools/install", [["a file/below"]]
     yield "tools/examples", [[""], ["word"], ["--no"]]
     yield "tools/benchmark", [[""], ["word"], ["--no"], ["instructions", "second"]]
-    yield "tools/words", [[""], ["word"], ["5"], ["5", "x"], ["x", "5"], ["7?", "1"], ["5", "1", "2"], ["write", "second"]]
-    yield "tools/bakebutton", [[], [""], ["word"], ["--no"], ["check"], ["check", "missing"], ["check", "a folder"], ["check", "a file", "second"]]
+    yield "tools/words", [[""], ["word"], ["5"], ["5", "x"], ["x", "5"], ["7?", "1"], ["5!", "1"], ["5", "1", "2"], ["write", "second"]]
+    yield "tools/bakebutton", [[], [""], ["word"], ["--no"], ["check"], ["check", "missing"], ["check", "a folder"], ["check", "a file", "second"],
+                               ["bristol", "a file", "--owners", "1,x"]]
     yield "tools/attack", [[], [""], ["nothing"], ["check_circuit", "neither"]]
     yield "tools/cc", [[], [""]]
     yield "tools/run86", [[], [""], ["--no"], ["missing"], ["a folder"], ["a file"]]
@@ -118,7 +119,7 @@ def main():
         tried.fails("tools/listing", [job], "listing: 1 of ")
         tried.fails("tools/listing", [job], "could not tell", status="3")
         tried.fails("tools/listing", [job], "rt itself failed", status="2")
-        tried.fails("tools/words", ["15", "0"], "no call answers")
+        tried.fails("tools/words", ["18", "0"], "no call answers")
         if all(shutil.which(need, path=WITHOUT_KIT) for need in ("sh", "bash", "env", "sed", "python3")):
             tried.fails("tools/listing", [job], "is not here", kit=False)
             tried.fails("tools/attack", ["check_circuit"], "is not here", kit=False)

@@ -17,6 +17,8 @@ from importlib.util import module_from_spec, spec_from_loader
 
 sys.dont_write_bytecode = True  # nothing is written beside the sources
 
+import header  # noqa: E402
+
 ROOT = pathlib.Path(__file__).resolve().parent.parent
 WARNED = ["-Wall", "-Wextra", "-pedantic", "-Wshadow", "-Wconversion", "-Werror"]
 PROGRAM = r"""
@@ -69,11 +71,10 @@ def source(path):
 
 def wanted():
     """Each answer's number and places by the definitions; None is any place."""
-    checks = source("crates/theory_calls/specs/Checks.antt")
-    every = {}
-    for number, name in re.findall(r"\brefusal ([1-9]\d*) \(([\w-]+)", checks):
-        body = re.search(rf"^{name}(?: \w+)+ =(.*?)\n\n", checks, re.S | re.M).group(1)
-        every[int(number)] = sorted(map(int, re.findall(r"[(∷] ?\((\d+), not", body))) or [None]
+    every = {number: [None] for number in header.line_numbers()}
+    every[15].insert(0, 0)  # the number of lines of a text that has none, and of no other
+    for number, name in re.findall(r"\brefusal ([1-9]\d*) \(([\w-]+)", source(header.CHECKS)):
+        every[int(number)] = sorted(header.row_places(name)) or [None]
     answers = source("crates/theory_calls/specs/Answer.antt")
     every[int(re.search(r"^number-of \(abort o m\) = (\d+)$", answers, re.M).group(1))] = [None]
     every[int(re.search(r"^number-of \(good vs\) = (\d+)$", answers, re.M).group(1))] = [0]
@@ -83,14 +84,14 @@ def wanted():
 def check_rows(table):
     rows, every = table.rows(), wanted()
     have = {}
-    for number, asked, place, _ in rows:
-        if not asked:
+    for number, mark, place, _ in rows:
+        if not mark:
             have.setdefault(number, []).append(place)
     for number in sorted(set(have) | set(every)):
         if sorted(have.get(number, []), key=str) != sorted(every.get(number, []), key=str):
             fail(f"of number {number} the table has the places {have.get(number)}, the definitions {every.get(number)}")
-    if sorted(row[:3] for row in rows if row[1]) != [(4, True, None), (5, True, None), (6, True, None)]:
-        fail("the questions by number are refused with 4, 5 and 6, and the table has other rows for them")
+    if sorted(row[:3] for row in rows if row[1]) != [(4, "!", None), (4, "?", None), (5, "?", None), (6, "?", None)]:
+        fail("the questions by number have words of their own for 4, 5 and 6, a text for 4, and the table has other rows for them")
     large = [f"{int(n):,}" for n in re.findall(r"if [igo] > (\d+)", source("crates/check_limits/src/lib.rt"))]
     if [re.search(r"more than ([\d,]+)", table.words(2, place))[1] for place in range(3)] != large:
         fail(f"the limits are {large}")
@@ -102,7 +103,7 @@ def check_rows(table):
 def asked_for(table):
     """Numbers and places to try: each row's, others beside them, and the largest."""
     places = sorted({place for _, _, place, _ in table.rows() if place is not None} | {1, 3, 7, 310, 3071, 41520, 2**32 - 1, 2**63, 2**64 - 1})
-    return [(number, place, asked) for number in [*range(17), 99, 100, 101, 2**64 - 1] for place in places for asked in (0, 1)]
+    return [(number, place, asked) for number in [*range(20), 99, 100, 101, 2**64 - 1] for place in places for asked in range(len(table.MARKS))]
 
 
 def check_compiled(table, folder, compiler, language, standard):
@@ -119,12 +120,12 @@ def check_compiled(table, folder, compiler, language, standard):
     if done.returncode or len(said) != len(every):
         fail(f"the header's words, {standard}, in a room of some size, after {len(said)} of {len(every)}")
     for one, text in zip(every, said):
-        if text != (table.words(one[0], one[1], bool(one[2])) or ""):
+        if text != (table.words(one[0], one[1], table.MARKS[one[2]]) or ""):
             fail(f"the header's words, {standard}, for {one} are '{text}'")
 
 
 def check_shell(table):
-    """The shell is never asked for the questions by number."""
+    """The shell is never asked for the questions by number, nor for a text."""
     every = [(number, place) for number, place, asked in asked_for(table) if not asked and place < 2**31]
     script = '. "$1"\nwhile read -r number place; do printf "%s\\n" "$(words $number $place)"; done'
     done = subprocess.run(["sh", "-c", script, str(ROOT / "tools" / "sh"), str(ROOT / "tools" / "common.sh")],

@@ -3,6 +3,7 @@
        bench [ratios]
        bench call CIRCUIT CALL ENGINE
 
+   A call is on one of the circuits or, of CALL 4, on one of the texts.
    A sample is a run of calls long enough for the clock. Samples of all circuits, both engines and all places take turns, so that whatever else
    the machine does falls on all of them alike; a time is the median of its samples, and a ratio the median of the ratios of samples taken side
    by side. Each engine is there PLACES times, 16 bytes apart from line to line: on some processors a loop is twice as slow where one of its
@@ -10,13 +11,14 @@
    each call, circuit and engine. With `ratios` no times are printed: under an emulator they say nothing. With `call` one call is
    made at the last place, where nothing else is, for a counter of instructions to look at. */
 #include "engine.h"
+#include "texts.h"
 
 #include <stdio.h>
 #include <stdlib.h>
 #include <string.h>
 #include <time.h>
 
-enum { SAMPLES = 61, SAMPLE_NS = 1000000, ENGINES = 2, CALLS = 4 };
+enum { SAMPLES = 61, SAMPLE_NS = 1000000, ENGINES = 2, CALLS = 4, FROM_TEXT = CALLS };
 
 /* ---- Circuits */
 
@@ -40,11 +42,9 @@ static void put16(uint8_t *at, size_t x)
 
 static uint64_t state = 20267;
 
-/* Drawn numbers, the same each time. */
 static size_t draw(size_t below)
 {
-    state = state * 6364136223846793005u + 1442695040888963407u;
-    return (size_t)(state >> 33) % below;
+    return drawn_below(&state, below);
 }
 
 static void begin(struct circuit *c, size_t inputs, size_t gates, size_t outputs)
@@ -173,8 +173,10 @@ static void hamming(struct circuit *c, const char *name, size_t t)
 
 /* ---- The calls */
 
+/* On a circuit, or on a text. */
 struct job {
     struct circuit *c;
+    const struct text *t;
     struct bakebutton_sizes_answer size;
     uint8_t inputs[BAKEBUTTON_INPUTS_BYTES_MAX], second[BAKEBUTTON_INPUTS_BYTES_MAX], tapes[BAKEBUTTON_TAPES_BYTES_MAX];
     uint8_t line[BAKEBUTTON_LINE_BYTES_MAX];
@@ -183,9 +185,10 @@ struct job {
     uint8_t store[ENGINES][BAKEBUTTON_STORE_BYTES_MAX], view[ENGINES][BAKEBUTTON_VIEW_BYTES_MAX];
     uint8_t view_store[ENGINES][BAKEBUTTON_STORE_BYTES_MAX];
     uint8_t fresh[ENGINES][BAKEBUTTON_TAPES_BYTES_MAX], room[ENGINES][BAKEBUTTON_ROOM_BYTES_MAX];
+    uint8_t file[ENGINES][BAKEBUTTON_FILE_ROOM_BYTES];
 };
 
-static const char *const call_names[CALLS] = {"check", "run", "view", "re-taping"};
+static const char *const call_names[CALLS + 1] = {"check", "run", "view", "re-taping", "file from a text"};
 enum { SITE = 2 };
 
 /* An engine's calls, as often as it was linked. */
@@ -194,13 +197,14 @@ struct calls {
     __typeof__(bakebutton_run) *run;
     __typeof__(bakebutton_view) *view;
     __typeof__(bakebutton_retape) *retape;
+    __typeof__(bakebutton_from_bristol) *from_bristol;
 };
 
 #ifndef PLACES
 #define PLACES 1
 static const struct calls engines[ENGINES][PLACES] = {
-    {{bakebutton_check, bakebutton_run, bakebutton_view, bakebutton_retape}},
-    {{plain_check, plain_run, plain_view, plain_retape}},
+    {{bakebutton_check, bakebutton_run, bakebutton_view, bakebutton_retape, bakebutton_from_bristol}},
+    {{plain_check, plain_run, plain_view, plain_retape, plain_from_bristol}},
 };
 #else
 /* The script that links them puts a prefix before the names of each copy. */
@@ -208,8 +212,9 @@ static const struct calls engines[ENGINES][PLACES] = {
     extern __typeof__(bakebutton_check) at##name##_check;                                                                                \
     extern __typeof__(bakebutton_run) at##name##_run;                                                                                    \
     extern __typeof__(bakebutton_view) at##name##_view;                                                                                  \
-    extern __typeof__(bakebutton_retape) at##name##_retape;
-#define COPY(at, name) {at##name##_check, at##name##_run, at##name##_view, at##name##_retape}
+    extern __typeof__(bakebutton_retape) at##name##_retape;                                                                              \
+    extern __typeof__(bakebutton_from_bristol) at##name##_from_bristol;
+#define COPY(at, name) {at##name##_check, at##name##_run, at##name##_view, at##name##_retape, at##name##_from_bristol}
 #define COPIES(name) {COPY(at0_, name), COPY(at1_, name), COPY(at2_, name), COPY(at3_, name)}
 DECLARED(at0_, bakebutton)
 DECLARED(at1_, bakebutton)
@@ -237,9 +242,11 @@ static size_t make_call(struct job *j, unsigned call, unsigned engine, unsigned 
     case 2:
         return of->view(c->file, c->length, j->inputs, z->inputs, j->tapes, z->tapes, SITE, j->view[engine], z->view[SITE - 1],
                         j->view_store[engine], z->store).number;
-    default:
+    case 3:
         return of->retape(c->file, c->length, j->inputs, z->inputs, j->tapes, z->tapes, j->second, z->inputs, SITE, j->fresh[engine],
                           z->tapes, j->room[engine], z->room).number;
+    default:
+        return of->from_bristol(j->t->bytes, j->t->length, j->t->owners, j->t->values, j->file[engine], sizeof j->file[engine]).number;
     }
 }
 
@@ -289,6 +296,23 @@ static void hold(struct job *j)
         fail("the two engines leave unlike buffers");
 }
 
+/* A text is good, both make the same file of it, and its counts are those that the table tells. */
+static void hold_text(struct job *j, const struct text *t)
+{
+    struct bakebutton_counts_answer counts;
+
+    memset(j, 0, sizeof *j);
+    j->t = t;
+    for (unsigned engine = 0; engine < ENGINES; engine++)
+        if (make_call(j, FROM_TEXT, engine, 0) != 0)
+            fail("a text is refused");
+    if (memcmp(j->file[0], j->file[1], sizeof j->file[0]))
+        fail("the two engines make unlike files of a text");
+    counts = bakebutton_check(j->file[0], BAKEBUTTON_FILE_BYTES(t->inputs, t->gates, t->outputs));
+    if (counts.number || counts.inputs != t->inputs || counts.gates != t->gates || counts.outputs != t->outputs)
+        fail("the file of a text has other counts");
+}
+
 /* ---- Time */
 
 static double now(void)
@@ -332,16 +356,16 @@ static double median_ratio(const double *of, const double *to)
 
 enum { CIRCUITS = 5 };
 
-static double ns[CALLS][CIRCUITS][ENGINES][PLACES][SAMPLES];
+static double ns[CALLS + 1][CIRCUITS][ENGINES][PLACES][SAMPLES];
 
-static void measure(struct job *jobs, unsigned call)
+static void measure(struct job *jobs, unsigned count, unsigned call)
 {
     unsigned times[CIRCUITS];
 
-    for (unsigned c = 0; c < CIRCUITS; c++)
+    for (unsigned c = 0; c < count; c++)
         times[c] = 1 + (unsigned)(SAMPLE_NS / (sample(&jobs[c], call, 1, 0, 9) + 1));
     for (unsigned n = 0; n < SAMPLES; n++)
-        for (unsigned c = 0; c < CIRCUITS; c++)
+        for (unsigned c = 0; c < count; c++)
             for (unsigned turn = 0; turn < ENGINES * PLACES; turn++) {
                 unsigned engine = (turn + n) % ENGINES, place = turn / ENGINES;
                 ns[call][c][engine][place][n] = sample(&jobs[c], call, engine, place, times[c]);
@@ -358,12 +382,36 @@ static const double *best(unsigned call, unsigned circuit, unsigned engine)
     return ns[call][circuit][engine][found];
 }
 
-int main(int count, char **words)
-{
-    static struct circuit circuits[CIRCUITS];
-    static struct job jobs[CIRCUITS];
-    int ratios = count > 1 && !strcmp(words[1], "ratios");
+/* ---- Tables */
 
+static void print_row(const char *name, size_t inputs, size_t gates, size_t outputs, unsigned call, unsigned circuit, int ratios)
+{
+    const double *proved = best(call, circuit, 0), *plain = best(call, circuit, 1);
+
+    printf("| %s | %zu, %zu, %zu | %s |", name, inputs, gates, outputs, call_names[call]);
+    if (!ratios)
+        printf(" %.1f | %.1f |", median(proved) / 1000, median(plain) / 1000);
+    printf(" %.2f |\n", median_ratio(proved, plain));
+}
+
+static void print_growth(void)
+{
+    printf("\n| call | proved: whole to half | half to a quarter | C: whole to half | half to a quarter |\n|---|---|---|---|---|\n");
+    for (unsigned call = 0; call < CALLS; call++) {
+        printf("| %s |", call_names[call]);
+        for (unsigned engine = 0; engine < ENGINES; engine++)
+            printf(" %.2f | %.2f |", median_ratio(best(call, 0, engine), best(call, 1, engine)),
+                   median_ratio(best(call, 1, engine), best(call, 2, engine)));
+        printf("\n");
+    }
+}
+
+static struct circuit circuits[CIRCUITS];
+static struct text texts[TEXTS];
+static struct job jobs[CIRCUITS], text_jobs[TEXTS];
+
+static void prepare_all(void)
+{
     all_and(&circuits[0], "largest, all AND", 1024, 3072, 256);
     all_and(&circuits[1], "half of it", 512, 1536, 128);
     all_and(&circuits[2], "a quarter of it", 256, 768, 64);
@@ -373,29 +421,32 @@ int main(int count, char **words)
         prepare(&jobs[c], &circuits[c]);
         hold(&jobs[c]);
     }
-    if (count == 5 && !strcmp(words[1], "call"))
-        return (int)make_call(&jobs[words[2][0] - '0'], (unsigned)(words[3][0] - '0'), (unsigned)(words[4][0] - '0'), PLACES - 1);
+    if (!make_texts(texts))
+        fail("the stored adder cannot be read");
+    for (unsigned t = 0; t < TEXTS; t++)
+        hold_text(&text_jobs[t], &texts[t]);
+}
+
+int main(int count, char **words)
+{
+    int ratios = count > 1 && !strcmp(words[1], "ratios");
+
+    prepare_all();
+    if (count == 5 && !strcmp(words[1], "call")) {
+        unsigned call = (unsigned)(words[3][0] - '0'), which = (unsigned)(words[2][0] - '0');
+        return (int)make_call(call == FROM_TEXT ? &text_jobs[which] : &jobs[which], call, (unsigned)(words[4][0] - '0'), PLACES - 1);
+    }
     for (unsigned call = 0; call < CALLS; call++)
-        measure(jobs, call);
+        measure(jobs, CIRCUITS, call);
+    measure(text_jobs, TEXTS, FROM_TEXT);
 
     printf("| circuit | I, G, O | call |%s proved to C |\n|---|---|---|%s---|\n", ratios ? "" : " proved, µs | C, µs |",
            ratios ? "" : "---|---|");
     for (unsigned c = 0; c < CIRCUITS; c++)
-        for (unsigned call = 0; call < CALLS; call++) {
-            const double *proved = best(call, c, 0), *plain = best(call, c, 1);
-            printf("| %s | %zu, %zu, %zu | %s |", circuits[c].name, circuits[c].inputs, circuits[c].gates, circuits[c].outputs,
-                   call_names[call]);
-            if (!ratios)
-                printf(" %.1f | %.1f |", median(proved) / 1000, median(plain) / 1000);
-            printf(" %.2f |\n", median_ratio(proved, plain));
-        }
-    printf("\n| call | proved: whole to half | half to a quarter | C: whole to half | half to a quarter |\n|---|---|---|---|---|\n");
-    for (unsigned call = 0; call < CALLS; call++) {
-        printf("| %s |", call_names[call]);
-        for (unsigned engine = 0; engine < ENGINES; engine++)
-            printf(" %.2f | %.2f |", median_ratio(best(call, 0, engine), best(call, 1, engine)),
-                   median_ratio(best(call, 1, engine), best(call, 2, engine)));
-        printf("\n");
-    }
+        for (unsigned call = 0; call < CALLS; call++)
+            print_row(circuits[c].name, circuits[c].inputs, circuits[c].gates, circuits[c].outputs, call, c, ratios);
+    for (unsigned t = 0; t < TEXTS; t++)
+        print_row(texts[t].name, texts[t].inputs, texts[t].gates, texts[t].outputs, FROM_TEXT, t, ratios);
+    print_growth();
     return 0;
 }

@@ -2,7 +2,8 @@
 
     python3 evaluator/calls.py marked > FILE
 
-writes the stream of the marked examples K1 to K12 and of the edges.
+writes the stream of the marked examples K1 to K12, of the edges, and of small
+Bristol Fashion texts.
 """
 
 import struct
@@ -132,6 +133,11 @@ def call_output_read(file, counts, number):
     return _call(14, number, file, counts)
 
 
+def call_from_bristol(text, owners, room=20000):
+    """The room is told by its length; what stands in it is always the same."""
+    return _call(15, room, text, owners)
+
+
 # The same calls for a good circuit, lent buffers of the right lengths with
 # odd bytes in them.
 
@@ -217,6 +223,7 @@ def empty_circuit():
         ("empty retape 4", retape_of(empty, none, none, none, 4)),
         ("empty traffic", call_traffic(file)),
         ("empty listing", call_listing(job(file, none, none))),
+        ("empty from_bristol", call_from_bristol(b"0 0\n0\n0\n", none)),
     ]
 
 
@@ -242,8 +249,94 @@ def edges():
     ] + empty_circuit()
 
 
+def text_of(*lines, end="\n"):
+    return "".join(line + end for line in lines).encode()
+
+
+AND_TEXT = ["1 3", "2 1 1", "1 1", "2 1 0 1 2 AND"]  # of the marked circuit
+
+
+def good_texts():
+    """Bristol Fashion texts that are good, each with its name."""
+    def named(name, owners, *lines):
+        return "text " + name, call_from_bristol(text_of(*lines),
+                                                 bytes(owners))
+
+    crooked = ("\r\n  1 3\n\n2\r1  1 \r\n1 1\n \r \n"
+               " 2 1 0 1 2 AND\n\n   ").encode()
+    return [
+        named("AND", [1, 2], *AND_TEXT),
+        named("XOR", [3, 1], *AND_TEXT[:3], "2 1 1 0 2 XOR"),
+        named("INV", [2], "1 2", "1 1", "1 1", "1 1 0 1 INV"),
+        named("EQW", [1], "1 2", "1 1", "1 1", "1 1 0 1 EQW"),
+        named("EQW of an EQW", [3], "4 6", "1 2", "1 1", "1 1 1 3 EQW",
+              "1 1 3 2 EQW", "2 1 2 0 4 AND", "1 1 4 5 EQW"),
+        named("an input opened", [2, 3], "1 3", "2 1 1", "1 2",
+              "2 1 0 1 2 XOR"),
+        named("wires in any order", [2, 1], "5 9", "2 2 1", "2 1 1",
+              "2 1 0 1 6 XOR", "1 1 6 3 INV", "2 1 3 2 8 AND",
+              "1 1 8 4 EQW", "1 1 4 7 INV"),
+        named("widths of 0", [1, 2, 3], "0 1", "3 0 1 0", "2 0 1"),
+        named("leading zeros", [1, 2], "00001 0003", "2 01 00001", "001 1",
+              "2 1 00000 01 00002 AND"),
+        ("text CR LF", call_from_bristol(text_of(*AND_TEXT, end="\r\n"),
+                                         b"\1\2")),
+        ("text blank lines", call_from_bristol(crooked, b"\1\2")),
+        ("text no last LF", call_from_bristol(text_of(*AND_TEXT)[:-1],
+                                              b"\1\2")),
+        named("I 1024", [1], "0 1024", "1 1024", "0"),
+        named("O 256", [3], "0 256", "1 256", "1 256"),
+    ]
+
+
+def refused_gates():
+    """Gate lines with a fault, or with some: the first one counts."""
+    def named(first, *lines):
+        return ("text " + ", ".join(lines), call_from_bristol(text_of(
+            first, *AND_TEXT[1:3], *lines), b"\1\2"))
+
+    alone = ["2 1 000000 1 2 AND", "2 1 0 1 3 AND", "1 1 0 2 AND",
+             "2 1 0 1 99999 FOO", "3 1 0 1 1 2 MAND", "2 1 0 1 2 and",
+             "2 1 0 1 0 3", "2 1 2 0 2 AND", "2 1 0 2 2 XOR", "1 1 0 1 INV"]
+    return [*(named("1 3", line) for line in alone),
+            named("2 4", "2 1 0 1 2 AND", "1 1 0 2 EQW"),
+            named("2 4", "1 1 2 3 INV", "2 1 0 1 9 AND"),
+            named("2 4", "2 1 0 1 9 AND", "1 1 2 3 INV"),
+            named("1 4", "1 1 0 3 INV", "1 1 2 3 OR"),
+            named("2 4", "1 1 0 2 INV")]
+
+
+def refused_texts():
+    """The same of rooms, header lines, owners and limits."""
+    def named(name, *lines, owners=(1, 2), room=20000):
+        return "text " + name, call_from_bristol(text_of(*lines),
+                                                 bytes(owners), room)
+
+    return [
+        named("room 19999", *AND_TEXT, room=19999),
+        named("room 20001 and all else bad", "", owners=[], room=20001),
+        ("text empty", call_from_bristol(b"", b"\1\2")),
+        named("blank", ""),
+        named("wires 8193", "1 8193", *AND_TEXT[1:]),
+        named("a width less", "1 3", "2 1", *AND_TEXT[2:]),
+        named("a sum above the wires", *AND_TEXT[:2], "2 1 3", AND_TEXT[3]),
+        named("a tab behind the gate word", *AND_TEXT[:3],
+              AND_TEXT[3] + "\t"),
+        named("a line missing, blank ones behind", *AND_TEXT[:3], "", "\r"),
+        named("an output never written", "0 3", *AND_TEXT[1:3], owners=[]),
+        named("an owner less", *AND_TEXT, owners=[4]),
+        named("a bad owner", *AND_TEXT, owners=[3, 0]),
+        named("a bad owner of a width of 0", "0 1", "2 1 0", "1 1",
+              owners=[1, 4]),
+        named("I 1025, a bad owner", "0 1025", "1 1025", "0", owners=[4]),
+        named("I 1025, O 257", "0 1025", "1 1025", "1 257", owners=[1]),
+        named("O 257", "0 257", "1 257", "1 257", owners=[1]),
+    ]
+
+
 def marked():
-    return marked_examples() + edges()
+    return (marked_examples() + edges() + good_texts() + refused_gates()
+            + refused_texts())
 
 
 if __name__ == "__main__":

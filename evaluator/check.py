@@ -19,7 +19,7 @@ import calls   # noqa: E402
 import damage  # noqa: E402
 
 HERE = os.path.dirname(os.path.abspath(__file__))
-SOURCES = ["evaluator.c", "circuit.c"]
+SOURCES = ["evaluator.c", "circuit.c", "bristol.c"]
 CASES = 8000
 SEED = 20260
 SANITIZE = ["-g", "-O1", "-fsanitize=address,undefined",
@@ -31,7 +31,7 @@ def odd(count):
 
 
 def close(text):
-    return text.replace(" ", "")
+    return "".join(text.split())
 
 
 # What document 01 says of K1 to K12 and of the edges.
@@ -48,6 +48,19 @@ def run_text(answer, outputs, transcript, store=STORE):
 def retape_text(answer, tapes, room):
     return [f"retape {answer}", f"tapes {close(tapes)}", f"room {close(room)}"]
 
+
+def text_good(length, file):
+    return [f"from_bristol good {length}", f"file {close(file)}",
+            "behind same"]
+
+
+def text_refused(number, place):
+    return [f"from_bristol refused {number} {place}", "room same"]
+
+
+# The file of K1's circuit: header, owners, gate and output.
+MARKED = """x2a000 x02000 1000 1000 x20000 x22000 x28000 0000
+            1x02 x020 00 10 x020"""
 
 DOCUMENT = {
     "K1 run": run_text("good", "1 1 1", BITS + "100001"),
@@ -106,7 +119,82 @@ DOCUMENT = {
     "empty traffic": ["traffic good", "row 0 0 0", "row 0 0 0", "row 0 0 0"],
     "empty listing": ["listing good", "| inputs 0 gates 0 outputs 0",
                       "| bits 0", "| end"],
+    "empty from_bristol": text_good(
+        32, "x20000 0000 0000 0000 x20000 x20000 x20000 0000"),
 }
+
+# What request T-01 says of small texts.  Its words leave nothing open in a
+# file: gates in the order of the lines, operands as they stand, NOT with
+# second 0, an EQW's wire the one that it reads.
+
+DOCUMENT.update({
+    "text AND": text_good(42, MARKED),
+    "text XOR": text_good(
+        42, """x2a000 x02000 1000 1000 x20000 x22000 x28000 0000
+               x03 1  10 10 00  x020"""),
+    "text INV": text_good(
+        41, """x29000 1000 1000 1000 x20000 x21000 x27000 0000
+               x02  x030 00 00  10"""),
+    "text EQW": text_good(
+        35, "x23000 1000 0000 1000 x20000 x21000 x21000 0000  1  00"),
+    # Wires 3 and 2 are wire 1, and the output is the AND's.
+    "text EQW of an EQW": text_good(
+        42, """x2a000 x02000 1000 1000 x20000 x22000 x28000 0000
+               x03 x03  x020 10 00  x020"""),
+    "text an input opened": text_good(
+        44, """x2c000 x02000 1000 x02000 x20000 x22000 x28000 0000
+               x02 x03  10 00 10  10 x020"""),
+    # Wires 6, 3, 8, 7 are ours 3, 4, 5, 6; wire 4 is 8, wire 5 is none.
+    "text wires in any order": text_good(
+        63, """x3f000 x03000 x04000 x02000 x20000 x23000 x3b000 0000
+               x02 x02 1
+               10 00 10  x030 x030 00  x020 x040 x020  x030 x050 00
+               x060 x050"""),
+    "text widths of 0": text_good(
+        35, "x23000 1000 0000 1000 x20000 x21000 x21000 0000  x02  00"),
+    "text leading zeros": text_good(42, MARKED),
+    "text CR LF": text_good(42, MARKED),
+    "text blank lines": text_good(42, MARKED),
+    "text no last LF": text_good(42, MARKED),
+    "text I 1024": text_good(
+        1056, "x20x0400 0x0400 0000 0000 x20000 x20x0400 x20x0400 0000"
+        + 1024 * "1"),
+    "text O 256": text_good(
+        800, "x20x0300 0100 0000 0100 x20000 x20100 x20100 0000"
+        + 256 * "x03" + "00 10"
+        + "".join(f"x{wire:02x} 0" for wire in range(2, 256))),
+    "text 2 1 000000 1 2 AND": text_refused(15, 4),
+    "text 2 1 0 1 3 AND": text_refused(15, 4),
+    "text 1 1 0 2 AND": text_refused(15, 4),
+    "text 2 1 0 1 99999 FOO": text_refused(15, 4),
+    "text 3 1 0 1 1 2 MAND": text_refused(16, 4),
+    "text 2 1 0 1 2 and": text_refused(16, 4),
+    "text 2 1 0 1 0 3": text_refused(16, 4),
+    "text 2 1 2 0 2 AND": text_refused(17, 4),
+    "text 2 1 0 2 2 XOR": text_refused(17, 4),
+    "text 1 1 0 1 INV": text_refused(17, 4),
+    "text 2 1 0 1 2 AND, 1 1 0 2 EQW": text_refused(17, 5),
+    "text 1 1 2 3 INV, 2 1 0 1 9 AND": text_refused(17, 4),
+    "text 2 1 0 1 9 AND, 1 1 2 3 INV": text_refused(15, 4),
+    "text 1 1 0 3 INV, 1 1 2 3 OR": text_refused(15, 5),
+    "text 1 1 0 2 INV": text_refused(15, 4),
+    "text room 19999": text_refused(10, 0),
+    "text room 20001 and all else bad": text_refused(10, 0),
+    "text empty": text_refused(15, 0),
+    "text blank": text_refused(15, 1),
+    "text wires 8193": text_refused(15, 1),
+    "text a width less": text_refused(15, 2),
+    "text a sum above the wires": text_refused(15, 3),
+    "text a tab behind the gate word": text_refused(16, 4),
+    "text a line missing, blank ones behind": text_refused(15, 5),
+    "text an output never written": text_refused(17, 3),
+    "text an owner less": text_refused(4, 2),
+    "text a bad owner": text_refused(4, 1),
+    "text a bad owner of a width of 0": text_refused(4, 1),
+    "text I 1025, a bad owner": text_refused(4, 0),
+    "text I 1025, O 257": text_refused(2, 0),
+    "text O 257": text_refused(2, 2),
+})
 
 
 def fail(text):
@@ -161,7 +249,7 @@ def check_document(program):
         lines = printed(program, call).splitlines()
         if lines != DOCUMENT[name]:
             fail(f"{name}: printed {lines}, the document has {DOCUMENT[name]}")
-    print(f"K1 to K12 and the edges as the document has them, "
+    print(f"K1 to K12, the edges and small texts as the documents have them, "
           f"{len(examples)} calls")
 
 
@@ -189,6 +277,8 @@ def texts_of(cases, text):
         start, at = at, at + 1 + len(damage.LENT.get(case["call"], []))
         if case["call"] == "traffic":
             at += 3
+        if case["call"] == "from_bristol":
+            at += 1 if " refused " in " ".join(lines[start:at]) else 2
         while at < len(lines) and lines[at].startswith("| "):
             at += 1
         texts.append((" ".join(lines[start:start + 1]), lines[start + 1:at]))
@@ -231,12 +321,12 @@ def check_damaged(folder, program):
             refusals.add(int(answer.split()[2]))
         if answer == "retape good":
             retaped.append((case, damage.buffers_of(case, lines)["tapes"]))
-    if refusals != set(range(1, 15)):
+    if refusals != set(range(1, 18)):
         fail(f"the drawn calls meet refusals {sorted(refusals)} only")
     views_agree(guarded, retaped)
     check_cut(guarded)
     printed(guarded, b"".join(call for _, call in calls.marked()))
-    print(f"{len(cases)} drawn calls, refusals 1 to 14 among them, "
+    print(f"{len(cases)} drawn calls, refusals 1 to 17 among them, "
           f"{len(retaped)} re-tapings, no complaint")
 
 

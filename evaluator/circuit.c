@@ -3,7 +3,7 @@
 /* "I is at most 1,024, G at most 3,072, O at most 256" */
 static const uint32_t most_inputs = 1024, most_gates = 3072, most_outputs = 256;
 
-struct answer good_with(unsigned count, uint32_t a, uint32_t b, uint32_t c)
+struct answer good_with(unsigned count, size_t a, size_t b, size_t c)
 {
     struct answer answer = {GOOD, count, {a, b, c}};
     return answer;
@@ -20,7 +20,7 @@ struct answer aborted(uint32_t output, uint32_t sites)
     return answer;
 }
 
-struct answer refused(uint32_t number, uint32_t place)
+struct answer refused(uint32_t number, size_t place)
 {
     struct answer answer = {REFUSED, 2, {number, place, 0}};
     return answer;

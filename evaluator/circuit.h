@@ -17,17 +17,18 @@ enum outcome { GOOD, ABORT, REFUSED };
 
 /* What a call answers: good with its numbers, abort with the output's number
    and the sum of the objecting sites, or refused with "a number and a
-   place". */
+   place".  A text has no largest length, so that a place has no largest
+   number. */
 struct answer {
     enum outcome outcome;
     unsigned count;
-    uint32_t number[3];
+    size_t number[3];
 };
 
 struct answer good(void);
-struct answer good_with(unsigned count, uint32_t a, uint32_t b, uint32_t c);
+struct answer good_with(unsigned count, size_t a, size_t b, size_t c);
 struct answer aborted(uint32_t output, uint32_t sites);
-struct answer refused(uint32_t number, uint32_t place);
+struct answer refused(uint32_t number, size_t place);
 
 /* "1 XOR, 2 AND, 3 NOT (second is 0 and reads nothing), 4 OR" */
 enum kind { XOR = 1, AND = 2, NOT = 3, OR = 4 };

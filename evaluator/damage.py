@@ -7,8 +7,10 @@ order of refusals and their places are compared and not only looked at.
 
 import struct
 
+import bristol
 import calls
 import clean
+import texts
 from calls import AND, NOT, OR, XOR, Circuit
 
 LENT = {
@@ -25,12 +27,14 @@ GIVEN = {
     "gate_read": ["counts"],
     "owner_read": ["counts"],
     "output_read": ["counts"],
+    "from_bristol": ["owners"],
 }
+FIRST = {"listing": "job", "from_bristol": "text"}  # all others take a file
 # The questions to a reader: a file, and counts that anybody put beside it.
 # They are answered as the file's own, whatever the counts are.
 READERS = ["gate_read", "owner_read", "output_read"]
 NAMES = ["open", "gate", "owner", "output", "check", "plain", "run", "view",
-         "retape", "traffic", "listing", *READERS]
+         "retape", "traffic", "listing", *READERS, "from_bristol"]
 ODD_NUMBERS = [0, 1, 2, 3, 4, 5, 15, 16, 17, 31, 32, 33, 255, 256, 257, 1024,
                1025, 3072, 3073, 65535, 65536, 65537, 2**31, 2**32 - 1]
 
@@ -199,6 +203,9 @@ def refusal_of(case):
     name = case["call"]
     if name == "listing":
         return check_job(case)
+    if name == "from_bristol":
+        return bristol.refusal_of(case["text"], case["owners"],
+                                  case["number"])
     if name == "open":
         return check_header(case["file"])
     if name in ("gate", "owner", "output", *READERS):
@@ -309,8 +316,10 @@ def damage(rng, case):
 
 
 def draw_case(rng):
-    circuit = draw_circuit(rng, *draw_counts(rng))
-    case = draw_call(rng, rng.choice(NAMES), circuit)
+    circuit, name = draw_circuit(rng, *draw_counts(rng)), rng.choice(NAMES)
+    if name == "from_bristol":
+        return texts.draw_case(rng)
+    case = draw_call(rng, name, circuit)
     for _ in range(rng.choice([0, 0, 1, 1, 1, 2, 2, 3])):
         damage(rng, case)
     if rng.random() < 0.03:
@@ -321,21 +330,25 @@ def draw_case(rng):
 def draw_largest(rng):
     """Every call, undamaged, on a circuit with all counts at their limits,
     and a job of one byte too many.  Only inputs are opened, and the second
-    inputs keep the lowest 256."""
+    inputs keep the lowest 256.  Behind them are the longest texts."""
     circuit = draw_circuit(rng, 1024, 3072, 0, (AND, OR))
     circuit.outputs = list(range(256))
-    cases = [draw_call(rng, name, circuit) for name in NAMES]
+    cases = [draw_call(rng, name, circuit) for name in NAMES
+             if name != "from_bristol"]
     for case in cases:
         case["second"] = case["inputs"][:256] + case["second"][256:]
     listing = cases[NAMES.index("listing")]
     longer = calls.u32(len(listing["job"]) + 1) + listing["job"][4:] + b"\0"
-    return cases + [dict(listing, job=longer)]
+    return cases + [dict(listing, job=longer), *texts.largest(rng)]
 
 
 def stream_of(case):
     name = case["call"]
     if name == "listing":
         return calls.call_listing(case["job"])
+    if name == "from_bristol":
+        return calls.call_from_bristol(case["text"], case["owners"],
+                                       case["number"])
     if name in ("open", "check", "traffic"):
         return getattr(calls, "call_" + name)(case["file"])
     if name in ("gate", "owner", "output"):
@@ -356,9 +369,9 @@ def case_of(call):
         slices.append(call[at + 4:at + 4 + length])
         at += 4 + length
     name = NAMES[call[0] - 1]
-    parts = ["file", *GIVEN.get(name, []),
+    parts = [FIRST.get(name, "file"), *GIVEN.get(name, []),
              *(part + " lent" for part in LENT.get(name, []))]
-    case = dict(zip(["job"] if name == "listing" else parts, slices))
+    case = dict(zip(parts, slices))
     return dict(case, call=name, number=struct.unpack_from("<I", call, 1)[0])
 
 
@@ -496,7 +509,23 @@ def wrong_refusal(case, refusal, answer, lines):
         return "the table is not all zeros"
     if name == "listing" and lines != ["| refused %d %d" % refusal]:
         return "the text"
+    if name == "from_bristol" and lines != ["room same"]:
+        return "the room is changed"
     return None
+
+
+def wrong_from_bristol(case, answer, lines):
+    """What is wrong with the file of a good text: it is read back by document
+    01, and has the text's plain outputs."""
+    name, _, rest = lines[0].partition(" ")
+    file = bytes_of(rest)
+    if name != "file" or answer != f"from_bristol good {len(file)}":
+        return "the length"
+    if lines[1:] != ["behind same"]:
+        return "the bytes behind the file"
+    if check_circuit(file):
+        return "the file is refused"
+    return bristol.wrong_file(case["text"], case["owners"], read(file), plain)
 
 
 def wrong(case, answer, lines):
@@ -506,6 +535,8 @@ def wrong(case, answer, lines):
         if refusal[0] == 13:
             case["circuit"] = read(case["file"])
         return wrong_refusal(case, refusal, answer, lines)
+    if name == "from_bristol":
+        return wrong_from_bristol(case, answer, lines)
     if name == "listing":
         second, third = struct.unpack("<2I", case["job"][8:16])
         case["file"] = case["job"][16:second]

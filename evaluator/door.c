@@ -14,7 +14,7 @@
 #include <string.h>
 #include <sys/mman.h>
 
-enum { ROOM = 1 << 20, PAGE = 1 << 16, ROOMS = 8, BESIDE = 256 };
+enum { ROOM = 1 << 20, PAGE = 1 << 16, ROOMS = 8, BESIDE = 256, LAST_REFUSAL = 17 };
 
 static void wrong(const char *what)
 {
@@ -134,7 +134,7 @@ static struct answer told(size_t number, size_t place, size_t sites, struct answ
             wrong("sites that are none");
         return aborted((uint32_t)place, (uint32_t)sites);
     }
-    if (number > BAKEBUTTON_REFUSED_JOB)
+    if (number > LAST_REFUSAL)
         wrong("a number that is no answer");
     return refused((uint32_t)number, (uint32_t)place);
 }
@@ -146,7 +146,7 @@ static struct answer told_of(struct bakebutton_answer a)
 
 static struct answer told_counts(struct bakebutton_counts_answer a)
 {
-    return told(a.number, a.place, 0, good_with(3, (uint32_t)a.inputs, (uint32_t)a.gates, (uint32_t)a.outputs));
+    return told(a.number, a.place, 0, good_with(3, a.inputs, a.gates, a.outputs));
 }
 
 /* ---- The calls */
@@ -337,6 +337,18 @@ struct answer owner_read_call(struct slice file, struct slice counts, uint32_t n
 struct answer output_read_call(struct slice file, struct slice counts, uint32_t n)
 {
     return gate_read_call(file, counts, n);
+}
+
+/* A file that is said to be longer than its room is stream.c's to tell. */
+struct answer from_bristol_call(struct slice text, struct slice owners, struct slice room)
+{
+    struct held t = given(text), o = given(owners), r = lent(room);
+    struct bakebutton_file_answer a = bakebutton_from_bristol(pointer(t), t.length, pointer(o), o.length, pointer(r), r.length);
+
+    returned(r, room);
+    back(o);
+    back(t);
+    return told(a.number, a.place, 0, good_with(1, a.length, 0, 0));
 }
 
 struct answer listing_call(struct slice job, char text[LISTING_ROOM])

@@ -36,5 +36,9 @@ struct answer owner_read_call(struct slice file, struct slice counts,
                               uint32_t n);
 struct answer output_read_call(struct slice file, struct slice counts,
                                uint32_t n);
+/* Bristol Fashion text, "with an owner for each input value", to a circuit
+   file at the front of the room (bristol.c). */
+struct answer from_bristol_call(struct slice text, struct slice owners,
+                                struct slice room);
 
 #endif

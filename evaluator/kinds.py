@@ -6,6 +6,7 @@ is counted from the evaluator's answers.
 import struct
 
 import damage
+import textkinds
 import together
 
 QUESTIONS = {"owner": 4, "gate": 5, "output": 6, "owner_read": 4,
@@ -14,6 +15,7 @@ CHECKED = ["check", "traffic", "run", "listing", "plain", "view",
            "retape"]  # these make 1 to 6
 BITS = {"run": (7, 8, 9), "listing": (7, 8), "plain": (7,), "view": (7, 8),
         "retape": (7, 8, 12)}
+VALUES = {"from_bristol": (4,)}  # 4 for a value's owner, no wire's
 SLICE = {7: "inputs", 8: "tapes", 9: "line", 12: "second"}
 COUNTS = ("I", "G", "O")
 LIMITS = (1024, 3072, 256)
@@ -31,6 +33,9 @@ HEADER = [(1, 0), (2, 0), (2, 1), (2, 2),
 
 def needed_of(name):
     """The kinds that a call's answers must have."""
+    if name == textkinds.NAME:
+        yield from textkinds.needed()
+        return
     yield f"{name} good"
     yield from (f"{name}, {edge}" for edge in EDGES)
     yield from (f"{name} refused {n} {p}" for n, p in HEADER)
@@ -248,6 +253,8 @@ def kinds_of(case, answer, lines):
     name, outcome, *rest = answer.split()
     numbers = tuple(map(int, rest))
     refusal = numbers if outcome == "refused" else None
+    if name == textkinds.NAME:
+        return textkinds.kinds_of(case, refusal)
     found = {f"{name}, {edge}" for edge in of_edges(case, refusal)}
     if name in damage.READERS:
         found |= set(of_counts(case, refusal))

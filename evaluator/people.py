@@ -3,9 +3,10 @@
     python3 -B evaluator/people.py
 
 Every call of the stored stream (crates/trials/stdin) that the package can make is made through it; what comes out must be the stored text
-(crates/trials/stdout). K1 to K12 must be document 01's. The labels of bits are held to a run told by clean.py, to the evaluator's
-transcript, store, view and traffic, and to what a changed bit changes. Every file of the stream that the reader can open goes to text and
-back. The helper program, which asks the library where Python cannot load it, must answer as the library does.
+(crates/trials/stdout). K1 to K12 must be document 01's, and small texts request T-01's. The labels of bits are held to a run told by clean.py,
+to the evaluator's transcript, store, view and traffic, and to what a changed bit changes. Every file of the stream that the reader can open goes
+to text and back. The stored adder must add (sums.py). The helper program, which asks the library where Python cannot load it, must answer as
+the library does.
 """
 
 import ast
@@ -33,6 +34,7 @@ from bakebutton.calls import CALLS  # noqa: E402
 from bakebutton.errors import Mistake, Refused, Unavailable  # noqa: E402
 
 import labelled  # noqa: E402
+import sums  # noqa: E402
 
 SEED = 20269
 LONGEST_FILE, LONGEST_FUNCTION = 300, 40
@@ -90,6 +92,9 @@ def made(case):
         answer = engine.listing(case["job"])
         first = f"listing refused {answer.number} {answer.place}" if answer.number else "listing good"
         return [first, *("| " + line for line in answer.text.splitlines())]
+    if name == "from_bristol":
+        made_file = engine.from_bristol(case["text"], case["owners"])
+        return [f"from_bristol good {len(made_file)}", shown("file", made_file)]
     if name == "plain":
         return ["plain good", shown("values", engine.plain(file, case["inputs"]))]
     if name == "run":
@@ -100,9 +105,9 @@ def made(case):
 
 
 def differs(case, answer, lines):
-    """Whether the package answers otherwise. Refusal 10 is none of its own: it lends what `sizes` says."""
+    """Whether the package answers otherwise. Refusal 10 is none of its own: it lends what `sizes` says, and a room that nobody else sees."""
     try:
-        return made(case) != [answer, *lines]
+        return made(case) != [answer, *(line for line in lines if line != "behind same")]
     except Refused as refused:
         return answer != f"{case['call']} refused {refused.number} {refused.place}"
 
@@ -126,10 +131,12 @@ def check_marked():
     count = 0
     for name, call in calls.marked():
         wanted = check.DOCUMENT[name]
+        if " refused 10 " in wanted[0]:
+            continue
         if differs(damage.case_of(call), wanted[0], wanted[1:]):
-            fail(f"{name} is not document 01's")
+            fail(f"{name} is not the document's")
         count += 1
-    print(f"K1 to K12 and the edges as document 01 has them, {count} calls")
+    print(f"K1 to K12, the edges and small texts as the documents have them, {count} calls")
 
 
 # Texts and jobs.
@@ -181,7 +188,9 @@ def check_helper():
             ("gate", [file], 0, []), ("gate", [file], 2**64 - 1, []), ("owner", [file], 1, []), ("output", [file], 0, []),
             ("plain", [file, both], 0, [3]), ("plain", [file, both], 0, [0]), ("run", [file, both, calls.TAPES, bytes(26)], 0, [3, 26, 18]),
             ("run", [file, both, calls.TAPES, bytes(20) + b"\1" + bytes(5)], 0, [3, 26, 18]), ("view", [file, both, calls.TAPES], 3, [13, 18]),
-            ("retape", [file, b"\1\0", calls.TAPES, b"\0\1"], 3, [10, 12]), ("listing", [calls.job(file, both, calls.TAPES)], 0, [2624])]
+            ("retape", [file, b"\1\0", calls.TAPES, b"\0\1"], 3, [10, 12]), ("listing", [calls.job(file, both, calls.TAPES)], 0, [2624]),
+            ("from_bristol", [calls.text_of(*calls.AND_TEXT), both], 0, [20000]), ("from_bristol", [b"1", both], 0, [20000]),
+            ("from_bristol", [b"", b""], 0, [3])]
     if {name for name, *_ in some} != set(CALLS):
         fail("a kind of call is not asked of the helper program")
     for one in some:
@@ -231,6 +240,9 @@ def main():
         with tempfile.TemporaryDirectory() as folder:
             program = check.compiled(folder, "evaluator", [*check.SOURCES, "stream.c"], ["-O2"])
             wrong = labelled.wrong(program, random.Random(SEED))
+        if wrong:
+            fail(wrong)
+        wrong = sums.wrong(random.Random(SEED))
         if wrong:
             fail(wrong)
         check_texts(files)

@@ -7,7 +7,7 @@
 #include <stdlib.h>
 #include <string.h>
 
-enum { MOST_SLICES = 7, MOST_LENT = 3, MOST_CALLS = 14, PIECE = 65536 };
+enum { MOST_SLICES = 7, MOST_LENT = 3, MOST_CALLS = 15, PIECE = 65536 };
 
 /* The slices of a call; the lent ones come last. */
 struct form {
@@ -32,6 +32,7 @@ static const struct form forms[MOST_CALLS + 1] = {
     {"gate_read", 2, {0}},
     {"owner_read", 2, {0}},
     {"output_read", 2, {0}},
+    {"from_bristol", 2, {0}},
 };
 
 /* What one call is given, and what it gives back beside its answer. */
@@ -41,6 +42,7 @@ struct call {
     struct slice part[MOST_SLICES];
     uint32_t table[3][3];
     char text[LISTING_ROOM];
+    struct slice room;
 };
 
 static void stop(const char *why)
@@ -87,6 +89,24 @@ static struct slice read_slice(void)
     return part;
 }
 
+/* Byte n of the room that from_bristol is lent, before the call.  A stream has
+   its length alone, since 20,000 bytes with each call would be many. */
+static uint8_t filled(size_t n)
+{
+    return (uint8_t)((37 + 11 * n) % 256);
+}
+
+static struct slice filled_room(uint32_t length)
+{
+    struct slice room = {malloc(length ? length : 1), length};
+
+    if (!room.at)
+        stop("no memory");
+    for (size_t n = 0; n < room.length; n++)
+        room.at[n] = filled(n);
+    return room;
+}
+
 static struct answer make_call(struct call *call)
 {
     struct slice *p = call->part;
@@ -106,7 +126,10 @@ static struct answer make_call(struct call *call)
     case 11: return listing_call(p[0], call->text);
     case 12: return gate_read_call(p[0], p[1], call->number);
     case 13: return owner_read_call(p[0], p[1], call->number);
-    default: return output_read_call(p[0], p[1], call->number);
+    case 14: return output_read_call(p[0], p[1], call->number);
+    default:
+        call->room = filled_room(call->number);
+        return from_bristol_call(p[0], p[1], call->room);
     }
 }
 
@@ -116,7 +139,7 @@ static void print_answer(const char *name, struct answer answer)
 
     printf("%s %s", name, words[answer.outcome]);
     for (unsigned n = 0; n < answer.count; n++)
-        printf(" %lu", (unsigned long)answer.number[n]);
+        printf(" %zu", answer.number[n]);
     putchar('\n');
 }
 
@@ -150,6 +173,32 @@ static void print_text(const char *text)
     }
 }
 
+/* Whether the room is as it was, from a place on. */
+static const char *kept(struct slice room, size_t from)
+{
+    for (size_t n = from; n < room.length; n++)
+        if (room.at[n] != filled(n))
+            return "changed";
+    return "same";
+}
+
+/* The file that was written, if any was, and whether the rest stayed. */
+static void print_room(struct slice room, struct answer answer)
+{
+    struct slice file = {room.at, answer.number[0]};
+
+    if (answer.outcome != GOOD) {
+        printf("room %s\n", kept(room, 0));
+        return;
+    }
+    if (file.length > room.length) {
+        puts("file too long");
+        return;
+    }
+    print_buffer("file", file);
+    printf("behind %s\n", kept(room, file.length));
+}
+
 static void print_call(struct call *call, struct answer answer)
 {
     const struct form *form = &forms[call->which];
@@ -164,6 +213,10 @@ static void print_call(struct call *call, struct answer answer)
         print_table(call->table);
     if (call->which == 11)
         print_text(call->text);
+    if (call->which == 15) {
+        print_room(call->room, answer);
+        free(call->room.at);
+    }
 }
 
 int main(void)

@@ -19,6 +19,7 @@ sys.dont_write_bytecode = True  # nothing is written beside the sources
 import calls   # noqa: E402
 import check   # noqa: E402
 import damage  # noqa: E402
+import fashion  # noqa: E402
 import files   # noqa: E402
 import kinds   # noqa: E402
 import readers  # noqa: E402
@@ -30,14 +31,16 @@ CRATE = os.path.join(check.HERE, os.pardir, "crates", "trials")
 # The calls that the program makes.  One that is not here is left out of the
 # stream and of the kinds of answers.
 MADE = [*files.NAMES, "run", "listing", "plain", "view", "retape",
-        *damage.READERS]
+        *damage.READERS, "from_bristol"]
 # So many calls of these together there must be.
 LEAST = {("run", "listing"): 3000, ("plain",): 600, ("view",): 1000,
-         ("retape",): 1500, tuple(damage.READERS): 600}
+         ("retape",): 1500, tuple(damage.READERS): 600,
+         ("from_bristol",): 1500}
 EXAMPLES = ["K1 run", "K1 plain", "K1 listing", "K2", "K3", "K4", "K5", "K6",
             "K7", "K8", "K9", "K10", "K11 AND 0 2", "K11 AND 0 0", "K12",
             "tapes one short", "tapes one long", "empty run", "empty plain",
-            "empty view", "empty retape", "empty listing"]
+            "empty view", "empty retape", "empty listing",
+            "empty from_bristol", "text AND", "text EQW of an EQW"]
 
 
 def marked():
@@ -51,7 +54,8 @@ def cases():
     last."""
     return [case for case in [*(case for _, case in marked()),
                               *files.cases(), *runs.cases(),
-                              *views.cases(), *readers.cases()]
+                              *views.cases(), *fashion.cases(),
+                              *readers.cases()]
             if case["call"] in MADE]
 
 
@@ -103,7 +107,7 @@ def check_marked(text):
         at += len(wanted)
     numbered = dict.fromkeys(name.split()[0] for name, _ in examples
                              if name.startswith("K"))
-    print(f"{', '.join(numbered)} and the edges as the document has them, "
+    print(f"{', '.join(numbered)}, the edges and small texts as written out, "
           f"{len(examples)} calls, lines 1 to {at}")
 
 

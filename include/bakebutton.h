@@ -1,9 +1,10 @@
 /* Bakebutton for a panel: the engine's calls from C.
  *
  * A Boolean circuit runs at three sites on 2-of-3 replicated shares. These functions read and check a circuit file, run it on a
- * line, show what one site sees, find the tapes that explain one site's view by other inputs, and count the bits sent. Sockets,
- * keys and clocks stay with you: what goes in and comes out are buffers of yours. docs/FORMAT.md has the file, the slices, the
- * buffers and the refusals byte by byte; the numbers here are held to the proved sources by the project's own check.
+ * line, show what one site sees, find the tapes that explain one site's view by other inputs, count the bits sent, and write a
+ * circuit file from Bristol Fashion text. Sockets, keys and clocks stay with you: what goes in and comes out are buffers of yours.
+ * docs/FORMAT.md has the file, the text, the slices, the buffers and the refusals byte by byte; the numbers here are held to the
+ * proved sources by the project's own check.
  *
  * Build: `tools/library` writes libbakebutton.a and .so in target/lib; `cc -Iinclude yours.c target/lib/libbakebutton.a`. `tools/install
  * PREFIX` puts both and this header under a prefix. x86-64 Linux.
@@ -14,7 +15,7 @@
  *     number 100, BAKEBUTTON_ABORT   of a run only: some site got two unlike copies at an opening, and the run stopped there. place is
  *                                    that output's number, sites the objecting sites, a sum of 1, 2 and 4 for sites 1, 2 and 3. No
  *                                    outputs are handed over. This is no refusal: the call was good, the line was not.
- *     number 1 to 14                 a refusal: something that you gave does not hold; the table below says what, place says where.
+ *     number 1 to 17                 a refusal: something that you gave does not hold; the table below says what, place says where.
  *                                    Every buffer is as it was before the call (but see 13).
  *
  * There are no other numbers. A member that has nothing to say is 0. bakebutton_words, at the end, puts a number and a place in words.
@@ -26,6 +27,7 @@
  *      2   I, G or O too large (1,024; 3,072; 256)                                  0, 1 or 2
  *      3   a header field is wrong, or the file is not as long as its field says    the field's offset: 0, 16, 20, 24 or 28
  *      4   an owner is not 1, 2 or 3                                                input number
+ *          from a text: another number of owners than of values, else a bad owner   count of input values, else value number
  *      5   unknown kind, an operand that is no lower wire, NOT with second not 0    gate number
  *      6   an output wire is not below W                                            output number
  *      7   inputs: wrong length, else a byte above 1                                wanted length, else index
@@ -36,9 +38,14 @@
  *     12   second inputs, as 7                                                      as 7
  *     13   re-taping: an own input differs, else an opened bit does: no such tapes  input's wire, else I + output number
  *     14   bad job header                                                           0, 4, 8 or 12
+ *     15   text: a line is not of its form, else a line is missing                  line number, else number of lines
+ *     16   text: a gate word that is not XOR, AND, INV or EQW                       line number
+ *     17   text: wire read before written or written twice, else output unwritten   line number, else number of lines
  *
- * ORDER OF CHECKS, the same for every call: 14, 1, 2, 3, 4, 5, 6, 7, 8, 9, 11, 10, 12, 13, and in each the first fault by index. A
- * call makes only those that concern it, which the comment on each call lists. The first that fails is the answer.
+ * ORDER OF CHECKS, the same for every call on a circuit file or a job: 14, 1, 2, 3, 4, 5, 6, 7, 8, 9, 11, 10, 12, 13, and in each the
+ * first fault by index. A call makes only those that concern it, which the comment on each call lists. A text has an order of its
+ * own: 10, then by line 15, 16, 17, then with the number of lines 15, 17, then 4, 2. By line: the first line that has a fault, and of
+ * its faults the first in that order. Lines count from 1, blank ones too. The first check that fails is the answer.
  *
  * WHAT YOU MUST ENSURE. The engine checks every byte and every length that it is given; these four things it cannot see:
  *
@@ -46,7 +53,7 @@
  *        pointer may be null where its length is 0, and only there.
  *     2. A lent buffer overlaps no other buffer of the call, lent or given. What is only given may overlap.
  *     3. Nobody else writes to any of it during the call.
- *     4. There is stack: some 120 KB for bakebutton_listing, 2 KB for every other call.
+ *     4. There is stack: some 120 KB for bakebutton_listing, 40 KB for bakebutton_from_bristol, 2 KB for every other call.
  *
  * Nothing is kept between calls, nothing is allocated, nothing is written but the lent buffers: calls may be made from several threads
  * at a time. Besides memcpy and memset nothing of the C library is used.
@@ -70,9 +77,9 @@ extern "C" {
 
 /* ---- Version of this header and of the library that it came with */
 
-#define BAKEBUTTON_VERSION "1.0.0"
+#define BAKEBUTTON_VERSION "1.1.0"
 #define BAKEBUTTON_VERSION_MAJOR 1
-#define BAKEBUTTON_VERSION_MINOR 0
+#define BAKEBUTTON_VERSION_MINOR 1
 #define BAKEBUTTON_VERSION_PATCH 0
 
 /* ---- Numbers in answers */
@@ -94,6 +101,9 @@ extern "C" {
 #define BAKEBUTTON_REFUSED_SECOND 12
 #define BAKEBUTTON_REFUSED_DIFFERS 13
 #define BAKEBUTTON_REFUSED_JOB 14
+#define BAKEBUTTON_REFUSED_TEXT 15
+#define BAKEBUTTON_REFUSED_WORD 16
+#define BAKEBUTTON_REFUSED_WIRE 17
 
 /* A site's weight in an abort's sum of sites. */
 #define BAKEBUTTON_SITE_WEIGHT(site) (1u << ((site) - 1))
@@ -140,8 +150,9 @@ extern "C" {
 #define BAKEBUTTON_VIEW_BYTES_MAX 22272
 #define BAKEBUTTON_ROOM_BYTES_MAX 16384
 
-/* A listing is always lent this many; a job has at most this many. */
+/* A listing is always lent this many, a file that is made from a text this many; a job has at most this many. */
 #define BAKEBUTTON_TEXT_BYTES 2624
+#define BAKEBUTTON_FILE_ROOM_BYTES 20000
 #define BAKEBUTTON_JOB_BYTES_MAX 41520
 
 /* ---- Answers */
@@ -194,6 +205,13 @@ struct bakebutton_traffic_answer {
 
 /* length bytes of the lent buffer are text. */
 struct bakebutton_listing_answer {
+    size_t number;
+    size_t place;
+    size_t length;
+};
+
+/* length bytes of the lent buffer are a circuit file. */
+struct bakebutton_file_answer {
     size_t number;
     size_t place;
     size_t length;
@@ -278,6 +296,15 @@ size_t bakebutton_text_bytes(void) BAKEBUTTON_LOOK;
  * 14, 1, 2, 3, 4, 5, 6, 7, 8, 10. At a refusal length is 0; the program's line for it is `refused N P`, number and place. */
 struct bakebutton_listing_answer bakebutton_listing(const uint8_t *job, size_t job_length, uint8_t *text, size_t text_length) BAKEBUTTON_LOOK;
 
+/* ---- A circuit file from a text */
+
+/* A circuit as others exchange it, Bristol Fashion text (docs/FORMAT.md has its grammar), written as a circuit file that bakebutton_check
+ * accepts. owners has a byte for each input value of the text, in their order: the site that owns all bits of the value. Lent: 0 room, of
+ * BAKEBUTTON_FILE_ROOM_BYTES; the first length bytes are the file, and the rest is as it was. Checks 10, then by line 15, 16, 17, then
+ * with the number of lines 15, 17, then 4, 2. 2 is of the file: the sum of the input widths, the gates without EQW, the sum of the output
+ * widths. A value of width 0 has an owner too. The text has no largest length. At a refusal length is 0. */
+struct bakebutton_file_answer bakebutton_from_bristol(const uint8_t *text, size_t text_length, const uint8_t *owners, size_t owners_length, uint8_t *room, size_t room_length) BAKEBUTTON_LOOK;
+
 #ifdef __cplusplus
 }
 #endif
@@ -287,10 +314,11 @@ struct bakebutton_listing_answer bakebutton_listing(const uint8_t *job, size_t j
 /* So many bytes hold the longest words and their zero. */
 #define BAKEBUTTON_WORDS_BYTES 256
 
-/* What a number and a place mean. asked is not 0 where they are the answer of bakebutton_owner, bakebutton_gate or bakebutton_output, whose
- * place at 4, 5 and 6 is a count. As snprintf does, it writes at most room bytes, the last of them a zero, and returns how many there are
- * without it; text may be null where room is 0. There are no words, and 0 is returned, for a number and a place that no call answers. Not
- * proved, and in no library: it is compiled with your program. */
+/* What a number and a place mean. asked is 1 where they are the answer of bakebutton_owner, bakebutton_gate or bakebutton_output, whose
+ * place at 4, 5 and 6 is a count; 2 where they are that of bakebutton_from_bristol, whose place at 4 is a value's number or their count;
+ * else 0; any other number counts as 1. As snprintf does, it writes at most room bytes, the last of them a zero, and returns how many there are without it; text may be
+ * null where room is 0. There are no words, and 0 is returned, for a number that no call answers, or a place that the rows do not have. Not proved, and in no
+ * library: it is compiled with your program. */
 static inline size_t bakebutton_words(char *text, size_t room, size_t number, size_t place, int asked)
 {
     static const struct {
@@ -301,6 +329,7 @@ static inline size_t bakebutton_words(char *text, size_t room, size_t number, si
     } rows[] = {
         /* Made by tools/words from include/words.txt: */
         {4, -1, 1, "there is no such input: the circuit has #"},
+        {4, -1, 2, "there are not # owners, one for each input value, or that of value # is not 1, 2 or 3"},
         {5, -1, 1, "there is no such gate: the circuit has #"},
         {6, -1, 1, "there is no such output: the circuit has #"},
         {0, 0, 0, "good"},
@@ -327,6 +356,10 @@ static inline size_t bakebutton_words(char *text, size_t room, size_t number, si
         {14, 4, 0, "the circuit of the job does not begin at 16"},
         {14, 8, 0, "the inputs of the job begin before 16 or behind its end"},
         {14, 12, 0, "the tapes of the job begin before its inputs or behind its end"},
+        {15, 0, 0, "the text is empty"},
+        {15, -1, 0, "line #: not of the form that belongs there, above a limit of the text, or a gate line too many; or the text ends there, and a line is missing"},
+        {16, -1, 0, "line #: the gate word is not XOR, AND, INV or EQW"},
+        {17, -1, 0, "line #: a wire is read before it is written, or written twice; or the text ends there, and an output wire is never written"},
         {100, -1, 0, "some site got two unlike copies at output #: the run stopped there, and nothing is to be shown"},
         /* So far tools/words. */
     };
@@ -339,7 +372,7 @@ static inline size_t bakebutton_words(char *text, size_t room, size_t number, si
         rest /= 10;
     } while (rest > 0);
     for (row = 0; row < sizeof rows / sizeof *rows && *from == '\0'; row++)
-        if (rows[row].number == number && (rows[row].place < 0 || (size_t)rows[row].place == place) && (asked || !rows[row].asked))
+        if (rows[row].number == number && (rows[row].place < 0 || (size_t)rows[row].place == place) && (!rows[row].asked || rows[row].asked == (asked == 2 ? 2 : asked != 0)))
             from = rows[row].words;
     for (; *from != '\0'; from++) {
         const char *piece = *from == '#' ? digits + first : from;

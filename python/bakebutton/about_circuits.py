@@ -1,4 +1,4 @@
-"""Commands about a circuit alone: text and file, the check, lengths, traffic, a picture, words."""
+"""Commands about a circuit alone: texts and file, the check, lengths, traffic, a picture, words."""
 
 import sys
 
@@ -31,6 +31,19 @@ def file(words_):
         streams.write(words_.out, found.file)
         raise
     streams.write(words_.out, found.file)
+
+
+def bristol(words_):
+    """Bristol Fashion text to circuit file."""
+    streams.ready(words_.out, [words_.text])
+    streams.binary_ready(words_.out)
+    found = streams.read(words_.text)
+    try:
+        made = engine.from_bristol(found, words_.owners)
+    except Refused as refused:
+        refused.reasons = reasons.of_text(found, refused)
+        raise
+    streams.write(words_.out, made)
 
 
 def to_text(words_):

@@ -119,6 +119,7 @@ static void make(size_t code, size_t number)
 {
     struct slice f = given[0];
     struct bakebutton_listing_answer text;
+    struct bakebutton_file_answer file;
 
     switch (code) {
     case 1: COUNTS(open)
@@ -137,6 +138,10 @@ static void make(size_t code, size_t number)
     case 12:
         text = bakebutton_listing(SLICE(f), SLICE(lent[0]));
         add(text.number), add(text.place), add(text.length);
+        break;
+    case 13:
+        file = bakebutton_from_bristol(SLICE(f), SLICE(given[1]), SLICE(lent[0]));
+        add(file.number), add(file.place), add(file.length);
         break;
     default: stop("no such call");
     }

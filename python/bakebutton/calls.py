@@ -25,7 +25,9 @@ CALLS = {call.name: call for call in (
     Call(10, "view", 3, True, 2, ("sites",)),
     Call(11, "retape", 4, True, 2, ("sites",)),
     Call(12, "listing", 1, False, 1, ("length",)),
+    Call(13, "from_bristol", 2, False, 1, ("length",)),
 )}
 
 TEXT_BYTES = 2624  # of a listing; the library's own bakebutton_text_bytes is held to it when it is loaded
+FILE_ROOM_BYTES = 20000  # that a file which is made from a text is lent
 GOOD, ABORT = 0, 100

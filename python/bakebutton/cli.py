@@ -25,6 +25,14 @@ def whole(word):
     return int(word)
 
 
+def owners(word):
+    """Numbers with commas between. Whether each is a site is the engine's to say."""
+    found = [whole(part) for part in word.split(",")]
+    if max(found) > 255:
+        raise argparse.ArgumentTypeError(f"an owner is a byte, and '{max(found)}' is none")
+    return bytes(found)
+
+
 class Parser(argparse.ArgumentParser):
     """Refuses a wrong word in one line that says where help is, and takes no word cut short."""
 
@@ -60,6 +68,12 @@ def about_circuits(commands):
     one.add_argument("text", metavar="TEXT", help="a text; - is standard input")
     one.add_argument("out", metavar="OUT", nargs="?", help=OUT)
     one.add_argument("--anyway", action="store_true", help="write also a circuit that the check refuses; the status is 1 all the same")
+    one = add(commands, "bristol", circuits.bristol, "Bristol Fashion text to circuit file",
+              "bakebutton bristol adder64.bristol adder64.circuit --owners 1,2")
+    one.add_argument("text", metavar="TEXT", help="a text; - is standard input")
+    one.add_argument("out", metavar="OUT", nargs="?", help=OUT)
+    one.add_argument("--owners", type=owners, default=b"", metavar="LIST",
+                     help="the site of each input value of the text, in their order: 1,2; left out where it has none")
     one = add(commands, "text", circuits.to_text, "circuit file to text, good or bad", "bakebutton text k1.circuit k1.txt")
     one.add_argument("file", metavar="FILE", help="a circuit file; - is standard input")
     one.add_argument("out", metavar="OUT", nargs="?", help=OUT)

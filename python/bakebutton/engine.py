@@ -1,11 +1,11 @@
 """The engine's calls over bytes. Every answer is the library's; a refusal is raised as Refused, an abort is told in the run's result.
 
-Buffers are lent in the lengths that the library's own `sizes` gives, so refusal 10 never comes from here.
+Buffers are lent in the lengths that the library's own `sizes` gives, or that are always the same, so refusal 10 never comes from here.
 """
 
 import collections
 
-from .calls import ABORT, CALLS, GOOD, SIZES, TEXT_BYTES
+from .calls import ABORT, CALLS, FILE_ROOM_BYTES, GOOD, SIZES, TEXT_BYTES
 from .errors import Refused
 from .library import ask
 
@@ -21,10 +21,10 @@ Listing = collections.namedtuple("Listing", "number place text")
 LARGEST = 2**64 - 1
 
 
-def _good(name, words, question=False):
+def _good(name, words, mark=""):
     """The answer's words behind number and place, or the refusal."""
     if words[0] != GOOD:
-        raise Refused(words[0], words[1], question)
+        raise Refused(words[0], words[1], mark)
     return words[2:]
 
 
@@ -36,7 +36,7 @@ def _asked(name, file, number=0):
 def _question(name, file, number):
     """Asks for one stored number. A number that is not below its count is refused with the count as its place."""
     words, _ = ask(name, [file], number)
-    return _good(name, words, question=words[0] > 3)
+    return _good(name, words, mark="?")
 
 
 def open_file(file):
@@ -108,3 +108,10 @@ def listing(job):
     """A job's listing, as the program prints it: of a refused job that is one line, so nothing is raised."""
     (number, place, length), (text,) = ask("listing", [job], lent=[TEXT_BYTES])
     return Listing(number, place, f"refused {number} {place}\n" if number else text[:length].decode("ascii"))
+
+
+def from_bristol(text, owners):
+    """The circuit file of a Bristol Fashion text, with an owner for each of its input values."""
+    words, (room,) = ask("from_bristol", [text, bytes(owners)], lent=[FILE_ROOM_BYTES])
+    length, = _good("from_bristol", words, mark="!")
+    return room[:length]

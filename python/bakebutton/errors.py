@@ -6,15 +6,21 @@ whether the command was used wrongly (2) or what was given does not do (1).
 
 
 class Refused(Exception):
-    """The engine's refusal: a number and a place. question: whether it answers a question by number (owner, gate, output).
+    """The engine's refusal: a number and a place. mark: ? where it answers a question by number (owner, gate, output), ! where a text: the
+    table of words has rows of their own for them.
 
-    reasons are more words for a person, where somebody who knows the circuit has added them."""
+    reasons are more words for a person, where somebody who knows the circuit or the text has added them."""
 
     reasons = ()
 
-    def __init__(self, number, place, question=False):
+    def __init__(self, number, place, mark=""):
         super().__init__(f"refused {number} {place}")
-        self.number, self.place, self.question = number, place, question
+        self.number, self.place, self.mark = number, place, mark
+
+    @property
+    def question(self):
+        """Whether it answers a question by number."""
+        return self.mark == "?"
 
 
 class Mistake(Exception):

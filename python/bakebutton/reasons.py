@@ -15,7 +15,7 @@ SLICES = {7: "inputs", 8: "tapes", 9: "line", 12: "second inputs"}
 def place_of(refused):
     """("gate", 310) for 5 310; None where the place is none of a circuit's."""
     part = PARTS.get(refused.number)
-    return None if part is None or refused.question else (part, refused.place)
+    return None if part is None or refused.mark else (part, refused.place)
 
 
 def _gate(circuit, number):
@@ -45,7 +45,7 @@ def _differs(circuit, place):
 def reasons(circuit, refused, given=None):
     """Lines for a person. given: how many bits of each slice there were."""
     found = []
-    if refused.question:
+    if refused.mark:
         return found
     if refused.number == 4:
         found.append(f"its owner is stored as {circuit.owners[refused.place]}")
@@ -58,6 +58,20 @@ def reasons(circuit, refused, given=None):
     elif refused.number in SLICES and given and SLICES[refused.number] in given:
         found.append(f"{given[SLICES[refused.number]]} bits were given for the {SLICES[refused.number]}")
     return found
+
+
+LONGEST_LINE = 100
+
+
+def of_text(text, refused):
+    """The line of a Bristol Fashion text that its refusal names, with signs that are not seen spelled out."""
+    lines = text.split(b"\n")
+    lines = lines if lines[-1] else lines[:-1]  # behind the last line feed there is no line
+    if refused.number not in (15, 16, 17) or not 0 < refused.place <= len(lines):
+        return []
+    line = lines[refused.place - 1].strip(b" \r")
+    signs = "".join(chr(byte) if 32 <= byte < 127 else f"\\x{byte:02x}" for byte in line[:LONGEST_LINE])
+    return [f"line {refused.place} of {len(lines)} is: {signs}{' ..' if line[LONGEST_LINE:] else ''}".rstrip()]
 
 
 @contextlib.contextmanager

@@ -7,7 +7,7 @@ _table = {}
 
 
 def table():
-    """(number, place) to words; the place is * where the words hold for any other."""
+    """(number and its mark, place) to words; the place is * where the words hold for any other."""
     if not _table:
         try:
             with open(WORDS, encoding="utf-8") as file:
@@ -21,14 +21,14 @@ def table():
     return _table
 
 
-def of(number, place, question=False):
-    """What a number and a place mean; None where the table has nothing for them."""
-    row = f"{number}?" if question else str(number)
-    words = table().get((row, str(place)), table().get((row, "*")))
+def of(number, place, mark=""):
+    """What a number and a place mean; None where the table has nothing for them. A mark (errors.py) has rows of its own for some numbers."""
+    rows = [(row, at) for row in (f"{number}{mark}", str(number)) for at in (str(place), "*")]
+    words = next((table()[row] for row in rows if row in table()), None)
     return words and words.replace("{place}", str(place))
 
 
 def told(refused):
     """A refusal in one line, the bare numbers first."""
-    words = of(refused.number, refused.place, refused.question)
+    words = of(refused.number, refused.place, refused.mark)
     return f"refused {refused.number} {refused.place}: {words or 'a number and place that the table of words does not have'}"

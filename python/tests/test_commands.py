@@ -10,7 +10,7 @@ from common import EXAMPLES, K1, K1_CIRCUIT, ROOT, TAPES, Case, command
 from bakebutton import cli
 from bakebutton.circuit import Circuit
 
-COMMANDS = "file text check sizes traffic picture words tapes job apart listing plain run view retape page".split()
+COMMANDS = "file bristol text check sizes traffic picture words tapes job apart listing plain run view retape page".split()
 RUN = (K1, "--inputs", "11", "--tapes", TAPES)
 
 

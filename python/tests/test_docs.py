@@ -57,8 +57,10 @@ class Docs(unittest.TestCase):
 
     def test_words_for_every_number(self):
         places = {0: (0,), 1: (0,), 2: (0, 1, 2), 3: (0, 16, 20, 24, 28), 11: (0,), 14: (0, 4, 8, 12)}
-        for number in [*range(15), 100]:
+        for number in [*range(18), 100]:
             for place in places.get(number, (0, 310)):
                 self.assertTrue(words.of(number, place), (number, place))
         for number in (4, 5, 6):
-            self.assertTrue(words.of(number, 3, question=True))
+            self.assertIn("there is no such", words.of(number, 3, "?"))
+        self.assertIn("input value", words.of(4, 3, "!"))
+        self.assertEqual(words.of(17, 3, "!"), words.of(17, 3))

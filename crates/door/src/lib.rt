@@ -3,10 +3,12 @@
 ghost use mathlib.Core.Path.{_≡_};
 ghost use mathlib.Core.List.{[], _∷_};
 ghost use Rattle.theory_calls.specs.Calls.{Open, GateAt, OwnerAt, OutputAt, Check, Plain, Run, View, Retape, Traffic, Listing, does};
-ghost use Rattle.door_answers.specs.Told.{Tells, told-counts, told-gate, told-owner, told-output, told-traffic, TellsText};
+ghost use Rattle.bristol_text.specs.Call.{FromBristol};
+ghost use Rattle.door_answers.specs.Told.{Tells, told-counts, told-gate, told-owner, told-output, told-traffic, TellsText, TellsFile};
 ghost use Rattle.door_answers.specs.Sizes.{sized};
 use door_answers::Answer;
 use door_answers::CountsAnswer;
+use door_answers::FileAnswer;
 use door_answers::GateAnswer;
 use door_answers::ListingAnswer;
 use door_answers::OutputAnswer;
@@ -141,4 +143,12 @@ pub extern "C" fn bakebutton_listing(job: &[u8], text: &mut [u8]) -> ListingAnsw
     ensures { λ r. ⌜ TellsText r (now (text .exit) ∷ []) (Listing (now (job .entry)) (now (text .entry))) ⌝ }
 {
     door_figures::listing_for_c(job, text)
+}
+
+// PUBLIC. The circuit file of a Bristol Fashion text, in front in the lent room; a refusal leaves it as it was.
+#[no_mangle]
+pub extern "C" fn bakebutton_from_bristol(text: &[u8], owners: &[u8], room: &mut [u8]) -> FileAnswer
+    ensures { λ r. ⌜ TellsFile r (now (room .exit) ∷ []) (FromBristol (now (text .entry)) (now (owners .entry)) (now (room .entry))) ⌝ }
+{
+    door_texts::from_bristol_for_c(text, owners, room)
 }

@@ -5,6 +5,7 @@
 --     told-counts .. told-output         the answers that have values: 0 each where there are none
 --     told-traffic                       the answer, and the table's rows one after the other
 --     told-listing, TellsText            the answer, and the length of the text in the lent buffer; with the buffer
+--     told-file, TellsFile               likewise of a file in a lent room
 use mathlib.Core.Path.{_≡_}
 use mathlib.Core.List.{List, [], _∷_}
 use Prim.Native.Nat.{ℕ}
@@ -18,6 +19,7 @@ use Rattle.door_answers.specs.declared.OwnerAnswer.{OwnerAnswer}
 use Rattle.door_answers.specs.declared.OutputAnswer.{OutputAnswer}
 use Rattle.door_answers.specs.declared.TrafficAnswer.{TrafficAnswer}
 use Rattle.door_answers.specs.declared.ListingAnswer.{ListingAnswer}
+use Rattle.door_answers.specs.declared.FileAnswer.{FileAnswer}
 
 -- an abort's sites, else 0
 unfoldable pub sites-of : Said → ℕ
@@ -77,3 +79,9 @@ told-listing a = record { number = number-of a; place = place-of a; length = val
 
 abbrev pub TellsText : ListingAnswer → List (List ℕ) → Call → Type 0
 TellsText r lent c = TellsBy told-listing r lent c
+
+abbrev pub told-file : Said → FileAnswer
+told-file a = record { number = number-of a; place = place-of a; length = value-of 0 a }
+
+abbrev pub TellsFile : FileAnswer → List (List ℕ) → Call → Type 0
+TellsFile r lent c = TellsBy told-file r lent c

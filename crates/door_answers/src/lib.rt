@@ -73,6 +73,14 @@ pub struct ListingAnswer {
     pub length: usize,
 }
 
+// How many bytes of the lent room are the file.
+#[repr(C)]
+pub struct FileAnswer {
+    pub number: usize,
+    pub place: usize,
+    pub length: usize,
+}
+
 // The lengths of all slices and buffers that go with a circuit; the view's by site.
 #[repr(C)]
 pub struct SizesAnswer {

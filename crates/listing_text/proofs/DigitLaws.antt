@@ -7,8 +7,8 @@ use Prim.Native.Nat.{ℕ, _+_, _/_, _%_, _<_, _≤_}
 use lib.ListN.{length, set}
 use Rattle.theory_calls.specs.Listing.{decimal}
 use Rattle.theory_calls.proofs.Digits.{decimal-small, decimal-more, one-digit}
-use Rattle.listing_text.specs.Mirror.{write}
-use Rattle.listing_text.proofs.WriteLaws.{write-one, Put, put-put}
+use Rattle.file_writer.specs.Mirror.{write}
+use Rattle.file_writer.proofs.WriteLaws.{write-one, Put, put-put}
 
 pub put-small : (at n : ℕ) (l : List ℕ) → n ≤ 9 → at < length l → Put at (decimal n) l (set l at (48 + n)) (at + 1)
 put-small at n l h g =

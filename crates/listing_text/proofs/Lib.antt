@@ -1,3 +1,2 @@
-pub mod WriteLaws
 pub mod DigitLaws
 pub mod TextLaws

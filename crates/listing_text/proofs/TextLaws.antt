@@ -17,8 +17,9 @@ use Rattle.theory_sharing.specs.Circuit.{Circuit}
 use Rattle.theory_sharing.specs.Traffic.{table-total}
 use Rattle.theory_calls.specs.Listing.{decimal, word-inputs, word-gates, word-outputs, word-bits, word-out, word-end, word-refused, space, LF, out-lines, good-text}
 use Rattle.theory_calls.proofs.Digits.{decimal-length, digits-few, lines-length, line-out as out-short}
-use Rattle.listing_text.specs.Mirror.{write, line-of, counts-of, head-of, lines-of, shown-of, OneDigit}
-use Rattle.listing_text.proofs.WriteLaws.{write-none, Put, Filled, put-filled, filled-put, put-put}
+use Rattle.file_writer.specs.Mirror.{write}
+use Rattle.listing_text.specs.Mirror.{line-of, counts-of, head-of, lines-of, shown-of, OneDigit}
+use Rattle.file_writer.proofs.WriteLaws.{write-none, Put, Filled, put-filled, filled-put, put-put}
 
 pub good-lines : (C : Circuit) (shown : ℕ → ℕ) → good-text C shown ≡ lines-of (C .ins) (C .gates) (C .outs) (table-total C) shown
 unfolding good-text lines-of head-of counts-of

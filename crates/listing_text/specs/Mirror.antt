@@ -1,17 +1,12 @@
 -- What the writers of the listing's text leave in a lent room, as their contracts say it.
---     write at new l          l with new in it, from place at on
 --     line-of                 a word and two numbers: the line of a refusal, and the line of an output
 --     counts-of, head-of      the three counts; the first two lines
 --     lines-of                theory_calls' good-text, by its numbers (proofs/TextLaws: good-lines)
 --     shown-of, OneDigit      the bit shown for an output; that each takes one digit
 use mathlib.Core.List.{List, _++_}
 use Prim.Native.Nat.{ℕ, _+_, _*_, _≤_, _<_}
-use lib.ListN.{length, getD, take, drop}
+use lib.ListN.{getD}
 use Rattle.theory_calls.specs.Listing.{decimal, word-inputs, word-gates, word-outputs, word-bits, word-end, space, LF, out-lines}
-
--- the rest is as it was, before and behind
-unfoldable pub write : ℕ → List ℕ → List ℕ → List ℕ
-write at new l = take at l ++ (new ++ drop (at + length new) l)
 
 -- "refused 5 0", "out 0 1"
 unfoldable pub line-of : List ℕ → ℕ → ℕ → List ℕ

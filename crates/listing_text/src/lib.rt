@@ -1,27 +1,13 @@
-// The listing's text, written into a lent buffer from the front. Each writer is told the place where it starts and answers the place after
-// what it wrote, so that the next goes on there.
+// The listing's text, written into a lent buffer from the front, as file_writer writes.
 ghost use mathlib.Core.Path.{_≡_};
 ghost use Prim.Native.Nat.{ℕ, _+_, _*_, _<_, _≤_};
 ghost use mathlib.Core.List.{_++_};
 ghost use lib.ListN.{length};
 ghost use Rattle.theory_sharing.specs.Store.{fill};
 ghost use Rattle.theory_calls.specs.Listing.{decimal, word-out, out-lines, refused-text};
-ghost use Rattle.listing_text.specs.Mirror.{write, line-of, counts-of, head-of, lines-of, shown-of, OneDigit};
+ghost use Rattle.file_writer.specs.Mirror.{write};
+ghost use Rattle.listing_text.specs.Mirror.{line-of, counts-of, head-of, lines-of, shown-of, OneDigit};
 use file_header::Counts;
-
-// A word, byte by byte.
-pub fn put_word(text: &mut [u8], at: usize, word: &[u8]) -> usize
-    requires { ⌜ at + length (now word) ≤ length (now text) ⌝ }
-    ensures { λ _. ⌜ now (text .exit) ≡ write at (now (word .entry)) (now (text .entry)) ⌝ }
-    ensures { λ r. ⌜ r ≡ at + length (now (word .entry)) ⌝ }
-{
-    let mut k: usize = 0;
-    while k < word.len() {
-        text[at + k] = word[k];
-        k += 1;
-    }
-    at + word.len()
-}
 
 // A number's digits. It calls itself for all but the last, as the definition does, so that no digit has to be turned round: at most 20 deep.
 pub fn put_decimal(text: &mut [u8], at: usize, n: usize) -> usize
@@ -44,7 +30,7 @@ fn put_item(text: &mut [u8], at: usize, word: &[u8], n: usize) -> usize
     ensures { λ _. ⌜ now (text .exit) ≡ write at (now (word .entry) ++ decimal n) (now (text .entry)) ⌝ }
     ensures { λ r. ⌜ r ≡ at + length (now (word .entry)) + length (decimal n) ⌝ }
 {
-    let e = put_word(text, at, word);
+    let e = file_writer::put_bytes(text, at, word);
     put_decimal(text, e, n)
 }
 
@@ -56,7 +42,7 @@ fn put_line(text: &mut [u8], at: usize, word: &[u8], n: usize, p: usize) -> usiz
 {
     let a = put_item(text, at, word, n);
     let b = put_item(text, a, b" ", p);
-    put_word(text, b, b"\n")
+    file_writer::put_bytes(text, b, b"\n")
 }
 
 // "A refusal prints only `refused N P`". 50 bytes hold any two numbers.
@@ -112,7 +98,7 @@ fn put_head(text: &mut [u8], c: Counts, total: usize) -> usize
 {
     let a = put_counts(text, c);
     let b = put_item(text, a, b"\nbits ", total);
-    put_word(text, b, b"\n")
+    file_writer::put_bytes(text, b, b"\n")
 }
 
 // The whole listing of a good job: at most 46 bytes of counts and total, 10 an output, and 4.
@@ -124,5 +110,5 @@ pub fn good_text(text: &mut [u8], c: Counts, total: usize, outs: &[u8]) -> usize
 {
     let a = put_head(text, c, total);
     let b = out_lines(text, a, outs, c.outputs);
-    put_word(text, b, b"end\n")
+    file_writer::put_bytes(text, b, b"end\n")
 }

@@ -1,4 +1,5 @@
 -- What an accepted call has been given: the facts that later laws cite, so that none of them unfolds the checks.
+--     joined                        two orders that pass are one that passes
 --     Sound f                       refusals 1 to 6 hold nowhere in the file
 --     SiteOk s                      the site is 1, 2 or 3
 --     front                         1 to 8, which all calls on inputs and tapes make
@@ -32,7 +33,7 @@ unfolding Passes
 split [] ds h = (tt, h)
 split (c ∷ cs) ds h = let r = split cs ds (h .1) in ((h .0, r .0), r .1)
 
-joined : (cs ds : List Refusal) → Passes cs → Passes ds → Passes (cs ++ ds)
+pub joined : (cs ds : List Refusal) → Passes cs → Passes ds → Passes (cs ++ ds)
 unfolding Passes
 joined [] ds a b = b
 joined (c ∷ cs) ds a b = (a .0, joined cs ds (a .1) b)

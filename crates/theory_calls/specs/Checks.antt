@@ -39,8 +39,11 @@ abbrev pub row-short : List ℕ → Row
 row-short f = at-places 1 ((0, not (leb 32 (length f))) ∷ [])
 
 -- 2: "I, G or O too large, tested so | 0, 1 or 2"; "I is at most 1,024, G at most 3,072, O at most 256"
+abbrev pub limits-row : ℕ → ℕ → ℕ → Row
+limits-row i g o = at-places 3 ((0, not (leb i 1024)) ∷ (1, not (leb g 3072)) ∷ (2, not (leb o 256)) ∷ [])
+
 abbrev pub row-large : List ℕ → Row
-row-large f = at-places 3 ((0, not (leb (inputs-of f) 1024)) ∷ (1, not (leb (gates-of f) 3072)) ∷ (2, not (leb (outputs-of f) 256)) ∷ [])
+row-large f = limits-row (inputs-of f) (gates-of f) (outputs-of f)
 
 -- 3: "field 0, 16, 20, 24 or 28 not as above, tested so, or slice length unlike field 0 (tested with it) | the field's offset"
 abbrev pub row-field : List ℕ → Row

@@ -1,3 +1,5 @@
 pub mod PublicLaws
 pub mod Demands
+pub mod Shelf
 pub mod Marked
+pub mod MarkedTexts

@@ -1,2 +1,4 @@
 pub mod Public
+pub mod Shelf
 pub mod Marked
+pub mod MarkedTexts

@@ -1,9 +1,11 @@
 -- The calls that public functions promise, as a closed list, held to the sources by the gate.
 --     OnFile         the calls on a circuit file, or on a job with one: document 01's;  fixed-order: the one order of their checks
+--     text-numbers   the order of T-01's call, by the line's own number
 --     Public         all of them
 use mathlib.Core.List.{List, [], _∷_}
 use Prim.Native.Nat.{ℕ}
 use Rattle.theory_calls.specs.Calls.{Call, Open, GateAt, OwnerAt, OutputAt, Check, Traffic, Plain, Run, View, Retape, Listing}
+use Rattle.bristol_text.specs.Call.{FromBristol}
 
 pub data OnFile : Call → Type 0 where
   is-open : (file : List ℕ) → OnFile (Open file)
@@ -22,6 +24,12 @@ pub data OnFile : Call → Type 0 where
 abbrev pub fixed-order : List ℕ
 fixed-order = 14 ∷ 1 ∷ 2 ∷ 3 ∷ 4 ∷ 5 ∷ 6 ∷ 7 ∷ 8 ∷ 9 ∷ 11 ∷ 10 ∷ 12 ∷ 13 ∷ []
 
+-- T-01: "Refusals: 10 for the room ..; then, first by line and in this order on one line, 15 .., 16 .., 17 .., each with its line number; then, with the
+-- number of lines, 15 for a missing line, 17 for an output wire never written; then 4 ..; then 2.": the line's own number stands for its check
+abbrev pub text-numbers : ℕ → List ℕ
+text-numbers line = 10 ∷ line ∷ 15 ∷ 17 ∷ 4 ∷ 2 ∷ []
+
 -- a call with an order of its own stands here beside them
 pub data Public : Call → Type 0 where
   on-file : {c : Call} → OnFile c → Public c
+  is-from-bristol : (text owners room : List ℕ) → Public (FromBristol text owners room)

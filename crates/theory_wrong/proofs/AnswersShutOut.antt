@@ -1,9 +1,11 @@
 -- No wrong answer of specs/WrongReads.antt and specs/WrongRuns.antt meets the statement of its call, which is that what is left is what the call
 -- does (`traffic_of` says it in three equations, of the table, the number and the place). Found by computing each call: one theorem over all rows.
+-- Those of specs/WrongTexts.antt: TextsShutOut.antt.
 --     NoneOf, none-by           something holds of none of a list; found by a test
 --     Met                       a wrong answer is what its call does
 --     wrong-answers-shut-out    of none in both lists
 --     told-apart                by numbers: unlike-lists, lists of numbers that differ somewhere; joined, lists one after the other
+--     unlike-does, tells        the test of a row, by all numbers of what is left (said-numbers: of an answer), and that it tells
 -- Assumes nothing.
 use mathlib.Core.Path.{_≡_, refl, sym, ap, _∙_}
 use mathlib.Core.Bool.{Bool, true, false, cond, true≢false}
@@ -65,7 +67,7 @@ alike (x ∷ xs) = rw (eq-eqb x x refl) (alike xs)
 pub told-apart : {A : Type 0} (f : A → List ℕ) (x y : A) → unlike-lists (f x) (f y) ≡ true → ¬ (x ≡ y)
 told-apart {A = A} f x y d e = true≢false (sym d ∙ ap (λ (z : A). unlike-lists (f z) (f y)) e ∙ alike (f y))
 
-unfoldable said-numbers : Answer → List ℕ
+unfoldable pub said-numbers : Answer → List ℕ
 said-numbers (good vs) = 0 ∷ vs
 said-numbers (abort o m) = 1 ∷ o ∷ m ∷ []
 said-numbers (refused n p) = 2 ∷ n ∷ p ∷ []
@@ -78,10 +80,10 @@ joined (l ∷ ls) = l ++ joined ls
 abbrev numbers : After → List ℕ
 numbers a = said-numbers (a .answer) ++ (joined (a .returned) ++ joined (a .lent))
 
-abbrev unlike-does : Wrong → Bool
+abbrev pub unlike-does : Wrong → Bool
 unlike-does w = unlike-lists (numbers (w .gives)) (numbers (does (w .call)))
 
-tells : (w : Wrong) → unlike-does w ≡ true → ¬ Met w
+pub tells : (w : Wrong) → unlike-does w ≡ true → ¬ Met w
 tells w = told-apart numbers (w .gives) (does (w .call))
 
 -- every row

@@ -4,4 +4,5 @@ pub mod Right
 pub mod ShutOut
 pub mod RetapingShutOut
 pub mod AnswersShutOut
+pub mod TextsShutOut
 pub mod ForCShutOut

@@ -1,6 +1,6 @@
 -- What a caller of each export learns, as the checker reads it in the code, is the sentence that docs/STATEMENTS.md gives for it. A contract that
 -- says less, or something else, fails here.
---     open-promises .. listing-promises    each export, of the slices at entry (a), the struct (z) and the lent buffers at exit (e)
+--     open-promises .. from-bristol-promises    each export, of the slices at entry (a), the struct (z) and the lent buffers at exit (e)
 -- Assumes nothing.
 use mathlib.Core.Path.{_≡_, refl}
 use mathlib.Core.List.{[], _∷_}
@@ -34,8 +34,11 @@ use Rattle.door.proofs.bakebutton_text_bytes.Kinds as TextBytesKinds
 use Rattle.door.proofs.bakebutton_text_bytes.Reads as TextBytesReads
 use Rattle.door.proofs.bakebutton_listing.Kinds as ListingKinds
 use Rattle.door.proofs.bakebutton_listing.Reads as ListingReads
+use Rattle.door.proofs.bakebutton_from_bristol.Kinds as FromBristolKinds
+use Rattle.door.proofs.bakebutton_from_bristol.Reads as FromBristolReads
 use Rattle.theory_calls.specs.Calls.{Open, GateAt, OwnerAt, OutputAt, Check, Traffic, Plain, Run, View, Retape, Listing, text-bytes, does}
-use Rattle.door_answers.specs.Told.{Tells, TellsText, told-counts, told-gate, told-owner, told-output, told-traffic}
+use Rattle.bristol_text.specs.Call.{FromBristol}
+use Rattle.door_answers.specs.Told.{Tells, TellsText, TellsFile, told-counts, told-gate, told-owner, told-output, told-traffic}
 use Rattle.door_answers.specs.Sizes.{sized}
 
 pub open-promises : (κs : Lfts 1) (a : Dens κs OpenKinds.ps) (z : resT OpenKinds.r κs .Denot) (e : AtExit (endedOf 1 OpenKinds.ps OpenKinds.r) κs)
@@ -102,3 +105,8 @@ pub listing-promises : (κs : Lfts 2) (a : Dens κs ListingKinds.ps) (z : resT L
     → ListingReads.Learnt κs a z e
     ≡ (TellsText z (now (e .1 .0) ∷ []) (Listing (now (a .0)) (now (a .1 .0))))
 listing-promises κs a z e = refl
+
+pub from-bristol-promises : (κs : Lfts 3) (a : Dens κs FromBristolKinds.ps) (z : resT FromBristolKinds.r κs .Denot) (e : AtExit (endedOf 3 FromBristolKinds.ps FromBristolKinds.r) κs)
+    → FromBristolReads.Learnt κs a z e
+    ≡ (TellsFile z (now (e .1 .1 .0) ∷ []) (FromBristol (now (a .0)) (now (a .1 .0)) (now (a .1 .1 .0))))
+from-bristol-promises κs a z e = refl

@@ -6,6 +6,7 @@ mod views;
 
 use trials_calls::readers;
 use trials_calls::single;
+use trials_calls::texts;
 use trials_calls::values;
 use trials_stream::input;
 use trials_stream::input::Read;
@@ -14,7 +15,7 @@ use trials_stream::print;
 // Whether there is a call of this number.
 fn made(which: usize) -> bool {
     match which {
-        1..=14 => true,
+        1..=15 => true,
         _ => false,
     }
 }
@@ -45,6 +46,7 @@ fn make(which: usize, number: usize) -> bool {
         9 => retapes::retape(number),
         11 => jobs::listing(),
         12..=14 => readers::call(which, number),
+        15 => texts::from_bristol(number),
         _ => single::call(which, number),
     }
 }

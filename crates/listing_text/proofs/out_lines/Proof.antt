@@ -5,7 +5,7 @@ use native.Mathlib.Omega.{arith}
 use lib.ListN.{length}
 use Rattle.theory_calls.specs.Listing.{out-lines}
 use Rattle.listing_text.specs.Mirror.{shown-of, OneDigit}
-use Rattle.listing_text.proofs.WriteLaws.{Put}
+use Rattle.file_writer.proofs.WriteLaws.{Put}
 use Rattle.listing_text.proofs.TextLaws.{lines-none, lines-turn, lines-end, lines-room}
 use Rattle.listing_text.proofs.out_lines.Statement.{statement}
 use Rattle.listing_text.proofs.out_lines.Tie as tie

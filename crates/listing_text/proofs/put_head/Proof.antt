@@ -10,11 +10,11 @@ put-counts-requires c κs = let k = head-length (c .before .before .args .c .inp
 put-item-requires : tie.Need-put-item-requires
 put-item-requires c κs = let s = c .before .before .before .before .before .before .before in let k = head-length (s .args .c .inputs) (s .args .c .gates) (s .args .c .outputs) (s .args .total) in omega arith
 
-put-word-requires : tie.Need-put-word-requires
-put-word-requires c κs = let s = c .before .before .before .before .before .before .before .before .before .before .before .before in let k = head-length (s .args .c .inputs) (s .args .c .gates) (s .args .c .outputs) (s .args .total) in omega arith
+put-bytes-requires : tie.Need-put-bytes-requires
+put-bytes-requires c κs = let s = c .before .before .before .before .before .before .before .before .before .before .before .before in let k = head-length (s .args .c .inputs) (s .args .c .gates) (s .args .c .outputs) (s .args .total) in omega arith
 
 returns : tie.Need-returns
-returns c = head-put _ _ _ _ _ _ _ _ _ _ _ (c .before .before .before .before .before .before .before .before .before .before .before .before .put-counts .ensures) (c .before .before .before .before .before .before .before .put-item .ensures) (c .before .before .put-word .ensures)
+returns c = head-put _ _ _ _ _ _ _ _ _ _ _ (c .before .before .before .before .before .before .before .before .before .before .before .before .put-counts .ensures) (c .before .before .before .before .before .before .before .put-item .ensures) (c .before .before .put-bytes .ensures)
 
 pub put-head-spec : {M : Type 1} → statement M
 put-head-spec =
@@ -24,6 +24,6 @@ put-head-spec =
     (λ c. search needs)
     put-item-requires
     (λ c. search needs)
-    put-word-requires
+    put-bytes-requires
     (λ c. search needs)
     returns)

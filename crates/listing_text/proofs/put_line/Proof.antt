@@ -10,11 +10,11 @@ put-item-requires c κs = let s = c .before .before .before in let k = line-leng
 put-item-requires-2 : tie.Need-put-item-requires-2
 put-item-requires-2 c κs = let s = c .before .before .before .before .before .before .before .before in let k = line-length (s .args .word .now) (s .args .n) (s .args .p) in omega arith
 
-put-word-requires : tie.Need-put-word-requires
-put-word-requires c κs = let s = c .before .before .before .before .before .before .before .before .before .before .before .before .before in let k = line-length (s .args .word .now) (s .args .n) (s .args .p) in omega arith
+put-bytes-requires : tie.Need-put-bytes-requires
+put-bytes-requires c κs = let s = c .before .before .before .before .before .before .before .before .before .before .before .before .before in let k = line-length (s .args .word .now) (s .args .n) (s .args .p) in omega arith
 
 returns : tie.Need-returns
-returns c = line-put _ _ _ _ _ _ _ _ _ _ _ (c .before .before .before .before .before .before .before .before .before .before .before .before .put-item .ensures) (c .before .before .before .before .before .before .before .put-item2 .ensures) (c .before .before .put-word .ensures)
+returns c = line-put _ _ _ _ _ _ _ _ _ _ _ (c .before .before .before .before .before .before .before .before .before .before .before .before .put-item .ensures) (c .before .before .before .before .before .before .before .put-item2 .ensures) (c .before .before .put-bytes .ensures)
 
 pub put-line-spec : {M : Type 1} → statement M
 put-line-spec =
@@ -24,6 +24,6 @@ put-line-spec =
     (λ c. search needs)
     put-item-requires-2
     (λ c. search needs)
-    put-word-requires
+    put-bytes-requires
     (λ c. search needs)
     returns)

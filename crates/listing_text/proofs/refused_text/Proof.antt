@@ -2,7 +2,7 @@ use borrow.Author.Needs.{needs}
 use native.Mathlib.Omega.{arith}
 use Rattle.theory_calls.specs.Listing.{refused-text}
 use Rattle.listing_text.specs.Mirror.{line-of}
-use Rattle.listing_text.proofs.WriteLaws.{put-filled}
+use Rattle.file_writer.proofs.WriteLaws.{put-filled}
 use Rattle.listing_text.proofs.TextLaws.{line-refused}
 use Rattle.listing_text.proofs.refused_text.Statement.{statement}
 use Rattle.listing_text.proofs.refused_text.Tie as tie

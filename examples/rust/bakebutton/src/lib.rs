@@ -21,15 +21,17 @@ impl<T: Value> fmt::Display for Answer<T> {
     fn fmt(&self, f: &mut fmt::Formatter) -> fmt::Result {
         match *self {
             Answer::Good(_) => f.write_str("good"),
-            Answer::Abort { output, sites } => write!(f, "abort at output {}, objecting {}: {}", output, sites, Words { number: ABORT, place: output, asked: false }),
-            Answer::Refused { number, place } => write!(f, "refused {} {}: {}", number, place, Words { number, place, asked: T::ASKED }),
+            Answer::Abort { output, sites } => write!(f, "abort at output {}, objecting {}: {}", output, sites, Words { number: ABORT, place: output, asked: false, from_text: false }),
+            Answer::Refused { number, place } => write!(f, "refused {} {}: {}", number, place, Words { number, place, asked: T::ASKED, from_text: T::FROM_TEXT }),
         }
     }
 }
 
-/// What a good answer holds. The three questions by number have words of their own for refusals 4, 5 and 6, whose place is a count.
+/// What a good answer holds. The three questions by number have words of their own for refusals 4, 5 and 6, whose place is a count, and a
+/// file that is made from a text for 4, whose place is a value's number or their count.
 pub trait Value {
     const ASKED: bool = false;
+    const FROM_TEXT: bool = false;
 }
 
 impl Value for () {}
@@ -46,17 +48,21 @@ impl Value for Owner {
 impl Value for Wire {
     const ASKED: bool = true;
 }
+impl Value for File {
+    const FROM_TEXT: bool = true;
+}
 
 /// A number and a place in words; nothing where no call answers so.
 struct Words {
     number: usize,
     place: usize,
     asked: bool,
+    from_text: bool,
 }
 
 impl fmt::Display for Words {
     fn fmt(&self, f: &mut fmt::Formatter) -> fmt::Result {
-        for (n, piece) in words(self.number, self.place, self.asked).split("{place}").enumerate() {
+        for (n, piece) in words(self.number, self.place, self.asked, self.from_text).split("{place}").enumerate() {
             if n > 0 {
                 write!(f, "{}", self.place)?;
             }
@@ -66,10 +72,11 @@ impl fmt::Display for Words {
     }
 }
 
-fn words(number: usize, place: usize, asked: bool) -> &'static str {
+fn words(number: usize, place: usize, asked: bool, from_text: bool) -> &'static str {
     match (number, place) {
         // Made by tools/words from include/words.txt:
         (4, _) if asked => "there is no such input: the circuit has {place}",
+        (4, _) if from_text => "there are not {place} owners, one for each input value, or that of value {place} is not 1, 2 or 3",
         (5, _) if asked => "there is no such gate: the circuit has {place}",
         (6, _) if asked => "there is no such output: the circuit has {place}",
         (0, 0) => "good",
@@ -96,6 +103,10 @@ fn words(number: usize, place: usize, asked: bool) -> &'static str {
         (14, 4) => "the circuit of the job does not begin at 16",
         (14, 8) => "the inputs of the job begin before 16 or behind its end",
         (14, 12) => "the tapes of the job begin before its inputs or behind its end",
+        (15, 0) => "the text is empty",
+        (15, _) => "line {place}: not of the form that belongs there, above a limit of the text, or a gate line too many; or the text ends there, and a line is missing",
+        (16, _) => "line {place}: the gate word is not XOR, AND, INV or EQW",
+        (17, _) => "line {place}: a wire is read before it is written, or written twice; or the text ends there, and an output wire is never written",
         (100, _) => "some site got two unlike copies at output {place}: the run stopped there, and nothing is to be shown",
         // So far tools/words.
         _ => "",
@@ -144,6 +155,9 @@ pub type Owner = u8;
 /// The wire of an output, as it is stored.
 pub type Wire = u16;
 
+/// A circuit file that is made from a text.
+pub type File = Vec<u8>;
+
 /// How many bits site s sends to site r: `[s - 1][r - 1]`.
 pub type Traffic = [[u32; 3]; 3];
 
@@ -163,6 +177,9 @@ pub struct Sizes {
 
 /// How many bytes a listing is lent.
 pub const TEXT_BYTES: usize = 2624;
+
+/// How many bytes a file that is made from a text is lent, and has at most.
+pub const FILE_ROOM_BYTES: usize = 20000;
 
 const GOOD: usize = 0;
 const ABORT: usize = 100;
@@ -230,6 +247,12 @@ mod c {
         pub length: usize,
     }
     #[repr(C)]
+    pub struct FileAnswer {
+        pub number: usize,
+        pub place: usize,
+        pub length: usize,
+    }
+    #[repr(C)]
     pub struct SizesAnswer {
         pub number: usize,
         pub place: usize,
@@ -256,6 +279,7 @@ mod c {
         pub fn bakebutton_retape(file: *const u8, file_length: usize, inputs: *const u8, inputs_length: usize, tapes: *const u8, tapes_length: usize, second: *const u8, second_length: usize, site: usize, fresh: *mut u8, fresh_length: usize, room: *mut u8, room_length: usize) -> Answer;
         pub fn bakebutton_traffic(file: *const u8, file_length: usize) -> TrafficAnswer;
         pub fn bakebutton_listing(job: *const u8, job_length: usize, text: *mut u8, text_length: usize) -> ListingAnswer;
+        pub fn bakebutton_from_bristol(text: *const u8, text_length: usize, owners: *const u8, owners_length: usize, room: *mut u8, room_length: usize) -> FileAnswer;
     }
 }
 
@@ -365,4 +389,13 @@ pub fn traffic(file: &[u8]) -> Answer<Traffic> {
 pub fn listing(job: &[u8], text: &mut [u8; TEXT_BYTES]) -> Answer<usize> {
     let a = unsafe { c::bakebutton_listing(job.as_ptr(), job.len(), text.as_mut_ptr(), text.len()) };
     told(a.number, a.place, 0, a.length)
+}
+
+/// The circuit file of a Bristol Fashion text, which `check` accepts. There is an owner for each input value of the text, in their order: the
+/// site that owns all bits of the value.
+pub fn from_bristol(text: &[u8], owners: &[u8]) -> Answer<File> {
+    let mut room = vec![0; FILE_ROOM_BYTES];
+    let a = unsafe { c::bakebutton_from_bristol(text.as_ptr(), text.len(), owners.as_ptr(), owners.len(), room.as_mut_ptr(), room.len()) };
+    room.truncate(a.length);
+    told(a.number, a.place, 0, room)
 }

@@ -2,16 +2,16 @@ use borrow.Author.Needs.{needs}
 use mathlib.Core.Path.{_≡_, refl, sym}
 use Prim.Native.Nat.{_≤_, _-_}
 use lib.ListN.{length, take, length-set}
-use Rattle.listing_text.specs.Mirror.{write}
-use Rattle.listing_text.proofs.WriteLaws.{write-none, word-turn, word-end}
-use Rattle.listing_text.proofs.put_word.Statement.{statement}
-use Rattle.listing_text.proofs.put_word.Tie as tie
+use Rattle.file_writer.specs.Mirror.{write}
+use Rattle.file_writer.proofs.WriteLaws.{write-none, word-turn, word-end}
+use Rattle.file_writer.proofs.put_bytes.Statement.{statement}
+use Rattle.file_writer.proofs.put_bytes.Tie as tie
 
 abbrev Inv-loop : tie.InvT-loop
-Inv-loop text₀ at word k₀ text k = (k ≤ length word) × (text ≡ write at (take k word) text₀) × (length text ≡ length text₀)
+Inv-loop to₀ at bytes k₀ to k = (k ≤ length bytes) × (to ≡ write at (take k bytes) to₀) × (length to ≡ length to₀)
 
 abbrev μ-loop : tie.MeasureT-loop
-μ-loop text₀ at word k₀ text k = length word - k
+μ-loop to₀ at bytes k₀ to k = length bytes - k
 
 loop-holds : tie.Need-loop-holds Inv-loop μ-loop
 loop-holds c = (search needs, sym (write-none _ _), refl)
@@ -22,8 +22,8 @@ loop-again c = (search needs, word-turn _ _ _ _ _ (c .before .before .loop .inv 
 returns : tie.Need-returns Inv-loop μ-loop
 returns c = (word-end _ _ _ _ _ (c .before .loop .inv .1) (c .loop-test .left), refl)
 
-pub put-word-spec : {M : Type 1} → statement M
-put-word-spec =
+pub put-bytes-spec : {M : Type 1} → statement M
+put-bytes-spec =
     tie.close
     (tie.spec
     Inv-loop

@@ -1,7 +1,7 @@
 -- What holds of writing into a room.
 --     write-write      two pieces, one after the other, are one piece
 --     write-front      from place 0 on it is sharing's fill
---     write-none, write-one    nothing; one byte, which is a store
+--     write-none, write-one, write-two    nothing; one byte, which is a store; two
 --     word-turn, word-end      a word byte by byte
 --     Put, put-put     a writer's whole answer, what it left and the place after; two of them are one
 --     Filled           the same from the front;  put-filled, filled-put: one by the other
@@ -14,11 +14,11 @@ use native.Mathlib.Nat.{add-assoc, zero-add, add-zero}
 use native.Mathlib.Numerals.{add-one}
 use native.Mathlib.Omega.{arith}
 use lib.Dec.{leb}
-use lib.ListN.{length, getD, take, drop, set, length-append, drop-of-length-le, take-append-drop}
+use lib.ListN.{length, getD, take, drop, set, length-set, length-append, drop-of-length-le, take-append-drop}
 use lib.Seq.{take-at, take-all, drop-drop, drop-append-add, length-take-le, set-split, take-suc}
 use borrow.Author.Tests.{leb-true, leb-false}
 use Rattle.theory_sharing.specs.Store.{fill}
-use Rattle.listing_text.specs.Mirror.{write}
+use Rattle.file_writer.specs.Mirror.{write}
 
 -- what stands before the second piece, and what after it
 before : (p a d : List ℕ) (at : ℕ) → length p ≡ at → take (at + length a) (p ++ (a ++ d)) ≡ p ++ a
@@ -108,3 +108,11 @@ put-put at a b l m n r s p q = (
   q .0 ∙ ap₂ (λ k z. write k b z) (p .1) (p .0) ∙ write-write at a b l,
   q .1 ∙ ap (λ (k : ℕ). k + length b) (p .1) ∙ add-assoc at (length a) (length b) ∙ ap (λ (k : ℕ). at + k) (sym (length-append a b)),
 )
+
+-- two bytes, one after the other
+pub write-two : (at a b : ℕ) (l : List ℕ) → at + 2 ≤ length l → set (set l at a) (at + 1) b ≡ write at (a ∷ b ∷ []) l
+write-two at a b l h =
+    let k : length (set l at a) ≡ length l = length-set l at a in
+    write-one (at + 1) b (set l at a) (omega arith)
+    ∙ ap (write (at + 1) (b ∷ [])) (write-one at a l (omega arith))
+    ∙ write-write at (a ∷ []) (b ∷ []) l

@@ -1,0 +1,3 @@
+pub mod FileLaws
+pub mod OwnerLaws
+pub mod WholeFile

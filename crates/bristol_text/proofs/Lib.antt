@@ -1,0 +1,10 @@
+pub mod LineLaws
+pub mod Faults
+pub mod GoodText
+pub mod Sane
+pub mod Behind
+pub mod Numbering
+pub mod Standing
+pub mod TextFile
+pub mod WholeCall
+pub mod FileCalls

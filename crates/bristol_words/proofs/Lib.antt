@@ -1,0 +1,4 @@
+pub mod PartLaws
+pub mod ReadLaws
+pub mod NextLaws
+pub mod GateLaws

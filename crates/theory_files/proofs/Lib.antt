@@ -1,0 +1,4 @@
+pub mod ReadBack
+pub mod Opens
+pub mod Whole
+pub mod Asked
