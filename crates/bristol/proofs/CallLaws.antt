@@ -18,6 +18,7 @@ use Rattle.theory_calls.specs.File.{size}
 use Rattle.theory_calls.specs.Answer.{After, good}
 use Rattle.theory_calls.specs.Checks.{Refusal, refusal, at-places, limits-row, fault, Verdict, accepted, refuses, verdict}
 use Rattle.theory_calls.specs.Call.{Call, settle, does}
+use Rattle.theory_calls.proofs.Limits.{and-first}
 use Rattle.theory_calls.proofs.Places.{Rising, refuse-at, place-verdict}
 use Rattle.bristol_text.specs.Words.{lines}
 use Rattle.bristol_text.specs.Lines.{are, numbers, total}
@@ -153,13 +154,9 @@ module _ (text owners room : List ℕ) where
 
             line-words : numbers (words-at text (p .seat)) ≡ are (length (h .ins) ∷ h .ins)
             line-words =
-                let k : eqb (h .stage) 3 ≡ true = first-of (eqb (h .stage) 3) _ (sound .whole) in
+                let k : eqb (h .stage) 3 ≡ true = and-first (eqb (h .stage) 3) _ (sound .whole) in
                 let s : h .stage ≡ 3 = eqb-true _ _ k in
                 match .inputs-line (omega (arith, s))
-              where
-                first-of : (a b : Bool) → (a && b) ≡ true → a ≡ true
-                first-of true b q = refl
-                first-of false b q = q
 
             widths-are : widths-of text (p .seat) ≡ h .ins
             unfolding listed behind-first

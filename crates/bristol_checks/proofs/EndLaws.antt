@@ -6,20 +6,20 @@
 use mathlib.Core.Path.{_≡_, refl, sym, ap, _∙_}
 use mathlib.Core.Bool.{Bool, true, false, not, cond, _&&_}
 use mathlib.Core.List.{List, [], _∷_}
-use Prim.Native.Nat.{ℕ, zero, suc, _+_, _-_, _<_, _≤_}
+use Prim.Native.Nat.{ℕ, _+_, _-_, _<_, _≤_}
 use native.Mathlib.Omega.{arith}
-use native.Mathlib.Numerals.{add-one}
-use lib.ListN.{length, getD}
-use lib.Dec.{leb, ltb, eqb}
-use borrow.Author.Tests.{eq-eqb, ne-eqb, lt-ltb, le-ltb, ltb-true, leb-true}
+use lib.ListN.{length}
+use lib.Dec.{leb, eqb}
+use borrow.Author.Tests.{eq-eqb, ne-eqb}
 use Rattle.theory_sharing.specs.First.{first}
-use Rattle.theory_sharing.proofs.FirstLaws.{Clear, first-at, first-none, first-before, first-hit}
-use Rattle.theory_calls.specs.Checks.{Row, refusal, one-to-three, limits-row, fault, Verdict, accepted, refuses, verdict}
+use Rattle.theory_calls.specs.Checks.{refusal, one-to-three, limits-row, fault, Verdict, accepted, refuses, verdict}
 use Rattle.theory_calls.proofs.Refusals.{row-refuses, row-passes}
-use Rattle.theory_calls.proofs.Places.{Rising, refuse-at, scan, place-verdict, place-fault}
+use Rattle.theory_calls.proofs.RowLaws.{listed-short, listed-bad, listed-sound}
+use Rattle.theory_calls.proofs.Places.{Rising, refuse-at, place-verdict}
 use Rattle.check_limits.specs.Mirror.{large-place}
 use Rattle.bristol_text.specs.Heard.{count-up}
 use Rattle.bristol_text.specs.Call.{row-values}
+use Rattle.bristol_text.proofs.CountLaws.{count-start, count-one, count-none}
 use Rattle.bristol_wires.specs.declared.Text.{Text}
 use Rattle.bristol_wires.specs.Mirror.{entry-of}
 use Rattle.bristol_laws.specs.Matches.{all-entered}
@@ -31,17 +31,11 @@ module _ (m : List ℕ) (I a n : ℕ) where
   from-out o = all-entered m I (count-up (a + o) (n - o))
 
   one : (o : ℕ) → o < n → from-out o ≡ (not (eqb (entry-of m I (a + o)) 0) && from-out (o + 1))
-  unfolding count-up all-entered
-  one o h =
-      let k : n - o ≡ suc (n - (o + 1)) = omega arith in
-      let s : a + (o + 1) ≡ suc (a + o) = omega arith in
-      rw (k, s)
+  unfolding all-entered
+  one o h = ap (all-entered m I) (count-one a n o h)
 
   pub outs-start : from-out 0 ≡ all-entered m I (count-up a n)
-  outs-start =
-      let k : n - 0 ≡ n = omega arith in
-      let s : a + 0 ≡ a = omega arith in
-      rw (k, s)
+  outs-start = ap (all-entered m I) (count-start a n)
 
   pub outs-on : (o e : ℕ) → o < n → e ≡ entry-of m I (a + o) → (e ≡ 0 → ⊥) → from-out (o + 1) ≡ from-out o
   outs-on o e h p z = sym (one o h ∙ rw (← p, ne-eqb e 0 z))
@@ -50,55 +44,20 @@ module _ (m : List ℕ) (I a n : ℕ) where
   outs-off o e h p z = sym (one o h ∙ rw (← p, eq-eqb e 0 z))
 
   pub outs-end : (o : ℕ) → n ≤ o → true ≡ from-out o
-  unfolding count-up all-entered
-  outs-end o h = let k : n - o ≡ 0 = omega arith in rw k
+  unfolding all-entered
+  outs-end o h = sym (ap (all-entered m I) (count-none a n o h))
 
+-- 4, as every list of a wanted length has it
 module _ (os : List ℕ) (v : ℕ) where
-  abbrev row : Row
-  row = row-values os v
-
-  other : (length os ≡ v → ⊥) → (p : ℕ) → row .bad p ≡ eqb p v
-  other h p = rw (ne-eqb (length os) v h)
-
-  same : length os ≡ v → (p : ℕ) → row .bad p ≡ (ltb p v && bad-owner os p)
-  same h p = rw (eq-eqb (length os) v h)
-
-  pub owners-short : (length os ≡ v → ⊥) → v ≡ fault row
-  unfolding fault
-  owners-short h =
-      sym (first-at (row .bad) v (suc v) (λ k l. other h k ∙ ne-eqb k v (λ q. omega (arith, l, q))) (omega arith) (other h v ∙ eq-eqb v v refl))
+  pub owners-short : (length os ≡ v → ⊥) → v ≡ fault (row-values os v)
+  owners-short = listed-short one-to-three os v
 
   module _ (h : length os ≡ v) (k : ℕ) (e : k ≡ first (bad-owner os) (length os)) where
-    found : k ≡ first (bad-owner os) v
-    found = e ∙ ap (first (bad-owner os)) h
+    pub owners-bad : k < v → k ≡ fault (row-values os v)
+    owners-bad = listed-bad one-to-three os v k h (e ∙ ap (first (bad-owner os)) h)
 
-    clear : Clear (bad-owner os) k
-    clear = λ j l. first-before (bad-owner os) v j (let q = found in omega (arith, l, q))
-
-    before : (j : ℕ) → j < k → row .bad j ≡ false
-    before j l = same h j ∙ go (ltb j v) (clear j l)
-      where
-        go : (b : Bool) → bad-owner os j ≡ false → (b && bad-owner os j) ≡ false
-        go true q = q
-        go false q = refl
-
-    pub owners-bad : k < v → k ≡ fault row
-    unfolding fault
-    owners-bad l =
-        let q = found in
-        let hit : bad-owner os k ≡ true = rw q (first-hit (bad-owner os) v (omega (arith, l, q))) in
-        sym (first-at (row .bad) k (suc v) before (omega (arith, l)) (same h k ∙ rw (lt-ltb k v l) hit))
-
-    pub owners-sound : v ≤ k → v + 1 ≡ fault row
-    unfolding fault
-    owners-sound l = rw add-one (sym (first-none (row .bad) (suc v) last))
-      where
-        last : (j : ℕ) → j < suc v → row .bad j ≡ false
-        last j m = go (ltb j v) refl
-          where
-            go : (b : Bool) → ltb j v ≡ b → row .bad j ≡ false
-            go true t = let n : j < v = ltb-true _ _ t in before j (omega (arith, n, l))
-            go false t = same h j ∙ ap (λ (b : Bool). b && bad-owner os j) t
+    pub owners-sound : v ≤ k → v + 1 ≡ fault (row-values os v)
+    owners-sound = listed-sound one-to-three os v k h (e ∙ ap (first (bad-owner os)) h)
 
 -- 2, by the place that the test of the limits gives
 module _ (i g x : ℕ) where

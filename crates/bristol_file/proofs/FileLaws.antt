@@ -11,7 +11,9 @@ use lib.ListN.{length, getD, take, drop, set, replicate, length-replicate, getD-
 use Rattle.theory_sharing.specs.Store.{fill}
 use Rattle.theory_calls.specs.File.{size, gates-start, outputs-start}
 use Rattle.theory_files.specs.Written.{two, four, header-bytes, output-bytes}
+use Rattle.theory_files.proofs.ReadBack.{length-header}
 use Rattle.bristol_text.specs.Heard.{count-up}
+use Rattle.bristol_text.proofs.CountLaws.{count-start, count-one, count-none}
 use Rattle.file_writer.specs.Mirror.{write}
 use Rattle.file_writer.proofs.WriteLaws.{write-write, write-none, word-turn, word-end, Put, put-put, put-filled}
 
@@ -34,10 +36,6 @@ four-put : (at v : ℕ) (l m : List ℕ) (r : ℕ) → Four at v l m r → Put a
 unfolding four two
 four-put at v l m r p = p
 
-pub header-long : (i g o : ℕ) → length (header-bytes i g o) ≡ 32
-unfolding header-bytes four two
-header-long i g o = refl
-
 pub header-put : (i g o : ℕ) (l a b c d e f h n : List ℕ) (ra rb rc rd re rf rh rn : ℕ)
     → Four 0 (size i g o) l a ra → Four ra i a b rb → Four rb g b c rc → Four rc o c d rd
     → Four rd 32 d e re → Four re (gates-start i) e f rf → Four rf (outputs-start i g) f h rh → Four rh 0 h n rn
@@ -52,7 +50,7 @@ header-put i g o l a b c d e f h n ra rb rc rd re rf rh rn p1 p2 p3 p4 p5 p6 p7 
     let q3 = put-put _ _ _ _ _ _ _ _ (four-put _ _ _ _ _ p3) q4 in
     let q2 = put-put _ _ _ _ _ _ _ _ (four-put _ _ _ _ _ p2) q3 in
     let q1 = put-filled _ _ _ _ (put-put _ _ _ _ _ _ _ _ (four-put _ _ _ _ _ p1) q2) in
-    (q1 .0, q1 .1 ∙ header-long i g o)
+    (q1 .0, q1 .1 ∙ length-header i g o)
 
 -- one number of two bytes in front of a piece
 two-more : (to v : ℕ) (b m : List ℕ) → write (to + 2) b (write to (two v) m) ≡ write to (two v ++ b) m
@@ -65,20 +63,12 @@ module _ (f : ℕ → ℕ) (a : ℕ) where
   from-out n o = output-bytes (map f (count-up (a + o) (n - o)))
 
   pub outs-turn : (n o to v : ℕ) (m l : List ℕ) → o < n → v ≡ f (a + o) → l ≡ write to (two v) m → write (to + 2) (from-out n (o + 1)) l ≡ write to (from-out n o) m
-  unfolding count-up output-bytes
-  outs-turn n o to v m l h e p =
-      let k : n - o ≡ suc (n - (o + 1)) = omega arith in
-      let s : a + (o + 1) ≡ suc (a + o) = omega arith in
-      rw (p, e, k, s) (two-more to (f (a + o)) (output-bytes (map f (count-up (suc (a + o)) (n - (o + 1))))) m)
+  unfolding output-bytes
+  outs-turn n o to v m l h e p = rw (p, e, count-one a n o h) (two-more to (f (a + o)) (from-out n (o + 1)) m)
 
   pub outs-end : (n o to : ℕ) (m : List ℕ) → n ≤ o → write to (from-out n o) m ≡ m
-  unfolding count-up output-bytes
-  outs-end n o to m h =
-      let k : n - o ≡ 0 = omega arith in
-      rw k (write-none to m)
+  unfolding output-bytes
+  outs-end n o to m h = rw (count-none a n o h) (write-none to m)
 
   pub outs-start : (n to : ℕ) (m : List ℕ) → write to (from-out n 0) m ≡ write to (output-bytes (map f (count-up a n))) m
-  outs-start n to m =
-      let k : n - 0 ≡ n = omega arith in
-      let s : a + 0 ≡ a = omega arith in
-      rw (k, s)
+  outs-start n to m = ap (λ (ws : List ℕ). write to (output-bytes (map f ws)) m) (count-start a n)

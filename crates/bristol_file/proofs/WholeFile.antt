@@ -13,6 +13,7 @@ use Rattle.theory_calls.specs.File.{size}
 use Rattle.theory_files.specs.Written.{header-bytes, output-bytes}
 use Rattle.bristol_text.specs.Lines.{are, numbers, total}
 use Rattle.bristol_text.specs.Renamed.{spread}
+use Rattle.theory_files.proofs.ReadBack.{length-header}
 use Rattle.bristol_text.proofs.TextFile.{spread-length}
 use Rattle.bristol_words.specs.declared.Word.{Word}
 use Rattle.bristol_words.specs.Mirror.{words-at, Next}
@@ -20,7 +21,6 @@ use Rattle.bristol_wires.specs.declared.Text.{Text}
 use Rattle.file_writer.specs.Mirror.{write}
 use Rattle.file_writer.proofs.WriteLaws.{write-write, Put, put-put, filled-put, put-filled}
 use Rattle.bristol_file.specs.Mirror.{listed, widths-in, Widths, behind-first, widths-of, Seated, outs-of, file-by}
-use Rattle.bristol_file.proofs.FileLaws.{header-long}
 use Rattle.bristol_file.proofs.OwnerLaws.{width-next, widths-rest}
 
 module _ (t : List ℕ) (seat : ℕ) (owners : List ℕ) (x : Text) (w : Word) (next : Next t seat w) (s : Seated t seat owners x) where
@@ -59,7 +59,7 @@ module _ (t : List ℕ) (seat : ℕ) (owners : List ℕ) (x : Text) (w : Word) (
       → (d ≡ fill l (file-by t seat owners x m g)) × (rd ≡ size (x .ins) (x .made) (x .outs))
   unfolding file-by size
   file-put l a b c d ra rb rc rd p1 p2 p3 p4 =
-      let q1 : Put 0 (header-bytes (x .ins) (x .made) (x .outs)) l a ra = filled-put _ _ _ _ (p1 .0, p1 .1 ∙ sym (header-long _ _ _)) in
+      let q1 : Put 0 (header-bytes (x .ins) (x .made) (x .outs)) l a ra = filled-put _ _ _ _ (p1 .0, p1 .1 ∙ sym (length-header _ _ _)) in
       let q2 : Put ra (spread owners (widths-in t (w .end))) a b rb = (p2 .0, p2 .1 ∙ ap (λ (k : ℕ). ra + k) (sym owners-long)) in
       let q4 : Put rc (output-bytes (outs-of m x)) c d (rc + length (output-bytes (outs-of m x))) = (p4 .0, refl) in
       let q = put-filled _ _ _ _ (put-put _ _ _ _ _ _ _ _ q1 (put-put _ _ _ _ _ _ _ _ q2 (put-put _ _ _ _ _ _ _ _ p3 q4))) in

@@ -10,10 +10,10 @@ use lib.ListN.{length, take, length-map}
 use Rattle.theory_calls.specs.File.{size}
 use Rattle.theory_files.specs.Written.{header-bytes, output-bytes, file-of}
 use Rattle.theory_files.proofs.ReadBack.{length-file}
+use Rattle.theory_calls.proofs.Limits.{and-first, and-second}
 use Rattle.bristol_text.specs.Lines.{total}
 use Rattle.bristol_text.specs.Heard.{Heard, written, count-up, out-wires, all-written}
 use Rattle.bristol_text.specs.Renamed.{renamed, spread, heard-file}
-use Rattle.bristol_text.proofs.LineLaws.{and-left, and-right}
 use Rattle.bristol_text.proofs.TextFile.{spread-length, count-length}
 use Rattle.bristol_wires.specs.declared.Text.{Text}
 use Rattle.bristol_wires.specs.Mirror.{ours-of}
@@ -24,7 +24,7 @@ module _ (h : Heard) (t : Text) (ws : List (List ℕ)) (m g : List ℕ) (q : Mat
   outs-same : (vs : List ℕ) → all-written h vs ≡ true → map (ours-of m (t .ins)) vs ≡ map (renamed h .wire) vs
   unfolding all-written
   outs-same [] a = refl
-  outs-same (w ∷ vs) a = ap₂ (λ (x : ℕ) (xs : List ℕ). x ∷ xs) (ours-is h t ws m g q fine w (and-left _ _ a)) (outs-same vs (and-right (written h w) _ a))
+  outs-same (w ∷ vs) a = ap₂ (λ (x : ℕ) (xs : List ℕ). x ∷ xs) (ours-is h t ws m g q fine w (and-first _ _ a)) (outs-same vs (and-second (written h w) _ a))
 
   module _ (owners : List ℕ) (long : length owners ≡ length (h .ins)) where
     ins-long : length (spread owners (h .ins)) ≡ total (h .ins)

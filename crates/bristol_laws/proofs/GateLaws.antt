@@ -15,10 +15,10 @@ use lib.Dec.{leb, ltb, eqb}
 use borrow.Author.Tests.{lt-ltb, ltb-true, leb-true, leb-false, le-leb, lt-leb, eqb-true, eqb-false}
 use Rattle.theory_files.specs.Written.{two, Numbers3, gate-bytes}
 use Rattle.file_writer.specs.Mirror.{write}
+use Rattle.theory_calls.proofs.Limits.{or-first}
 use Rattle.bristol_text.specs.Lines.{Line, total}
 use Rattle.bristol_text.specs.Heard.{Heard, writes, written, hear-gate}
 use Rattle.bristol_text.specs.Renamed.{Renamed, rename, inputs-alone, renamed}
-use Rattle.bristol_text.proofs.GoodText.{or-left}
 use Rattle.bristol_text.proofs.Behind.{or-false, known-is, known-before, rename-more}
 use Rattle.bristol_wires.specs.declared.Text.{Text}
 use Rattle.bristol_wires.specs.Mirror.{entry-of, gate-put, one-more, after-gate}
@@ -115,7 +115,7 @@ module _ (h : Heard) (t : Text) (ws : List (List ℕ)) (m g : List ℕ) (q : Mat
         go : (b : Bool) → eqb w z ≡ b → eqb (entry-of (set m z e) I w) 0 ≡ not (written h w || b)
         go true f =
             let k : w ≡ z = eqb-true w z f in
-            rw (k, entry-same m I z e (or-left (ltb z I) _ new) (omega (arith, q .map-long)), or-last (written h z)) some
+            rw (k, entry-same m I z e (or-first (ltb z I) _ new) (omega (arith, q .map-long)), or-last (written h z)) some
         go false f = rw (entry-other m I z e w f, or-false (written h w)) (rw (q .ins) at (q .marks w))
 
     put-numbered : (e ≡ suc (r′ .wire z)) → ((w : ℕ) → eqb w z ≡ false → r′ .wire w ≡ renamed h .wire w) → Fine h
@@ -125,7 +125,7 @@ module _ (h : Heard) (t : Text) (ws : List (List ℕ)) (m g : List ℕ) (q : Mat
         go : (b : Bool) → eqb w z ≡ b → entry-of (set m z e) I w ≡ suc (r′ .wire w)
         go true f =
             let k : w ≡ z = eqb-true w z f in
-            rw k (entry-same m I z e (or-left (ltb z I) _ new) (omega (arith, q .map-long)) ∙ same)
+            rw k (entry-same m I z e (or-first (ltb z I) _ new) (omega (arith, q .map-long)) ∙ same)
         go false f =
             entry-other m I z e w f ∙ ap (λ (i : ℕ). entry-of m i w) (sym (q .ins))
             ∙ q .numbered fine w (known-before I (h .gates) l w k (own w ∙ f)) ∙ ap suc (sym (others w f))

@@ -13,11 +13,12 @@ use native.Mathlib.Omega.{arith}
 use lib.ListN.{length, getD, replicate, length-replicate, getD-replicate, List·getD-eq-default}
 use lib.Dec.{leb, ltb, eqb}
 use borrow.Author.Tests.{lt-ltb, ltb-true, ltb-false, eqb-true, ne-eqb}
+use Rattle.theory_calls.proofs.Limits.{and-first}
 use Rattle.bristol_text.specs.Lines.{Line, bad, widths, Numbers, are, broken, numbers, total, widths-line, line-says}
 use Rattle.bristol_text.specs.Heard.{Heard, nothing-heard, hear-widths, any-writes}
 use Rattle.bristol_text.specs.Renamed.{rename-all, inputs-alone}
 use Rattle.bristol_text.proofs.Behind.{or-false}
-use Rattle.bristol_text.proofs.LineLaws.{Said, and-left, line-told}
+use Rattle.bristol_text.proofs.LineLaws.{Said, line-told}
 use Rattle.bristol_text.proofs.Sane.{Sane}
 use Rattle.bristol_wires.specs.declared.Text.{Text}
 use Rattle.bristol_wires.specs.Mirror.{entry-of, after-counts, after-widths, nothing-read}
@@ -88,7 +89,7 @@ module _ (xs : List ℕ) where
   widths-numbers W (are (v ∷ ys)) e = go (eqb (length ys) v && leb (total ys) W) refl e
     where
       go : (b : Bool) → (eqb (length ys) v && leb (total ys) W) ≡ b → cond b (widths ys) bad ≡ widths xs → are (v ∷ ys) ≡ are (length xs ∷ xs)
-      go true t f = let a = eqb-true (length ys) v (and-left _ _ t) in let s : ys ≡ xs = cc in rw (← a, s)
+      go true t f = let a = eqb-true (length ys) v (and-first _ _ t) in let s : ys ≡ xs = cc in rw (← a, s)
       go false t f = let z : _≡_ {A = ℕ} 0 1 = cc in absurd (omega arith)
   widths-numbers W (are []) e = let z : _≡_ {A = ℕ} 0 1 = cc in absurd (omega arith)
   widths-numbers W broken e = let z : _≡_ {A = ℕ} 0 1 = cc in absurd (omega arith)

@@ -12,10 +12,10 @@ use lib.Dec.{ltb, eqb}
 use borrow.Author.Tests.{ne-eqb}
 use Rattle.theory_files.specs.Written.{Numbers3}
 use Rattle.bristol_text.specs.Lines.{Line, blank, bad, counts, widths, other-word, xor-gate, and-gate, inv-gate, eqw-gate}
-use Rattle.bristol_text.specs.Heard.{writes, any-writes}
+use Rattle.bristol_text.specs.Heard.{known, writes, any-writes}
 use Rattle.bristol_text.specs.Meaning.{wires-after, gates-after}
 use Rattle.bristol_text.specs.Renamed.{Renamed, rename, rename-all}
-use Rattle.bristol_text.specs.Order.{known, Joins, our-gate, our-gates}
+use Rattle.bristol_text.specs.Order.{Joins, our-gate, our-gates}
 
 or-assoc : (a b c : Bool) → (a || (b || c)) ≡ (a || b || c)
 or-assoc true b c = refl

@@ -13,27 +13,24 @@ use Rattle.theory_calls.specs.Checks.{one-to-three, limits-row, tested, at-plac
 use Rattle.theory_calls.proofs.Refusals.{Clears, Passes, accepted-passes, passes-accepted}
 use Rattle.theory_files.specs.Written.{Within}
 use Rattle.theory_files.proofs.Opens.{Fail, places-clear}
+use Rattle.theory_calls.proofs.Limits.{or-first}
 use Rattle.bristol_text.specs.Lines.{total}
 use Rattle.bristol_text.specs.Heard.{heard, out-wires, all-written, complete}
 use Rattle.bristol_text.specs.Renamed.{renamed}
 use Rattle.bristol_text.specs.Call.{fault-at, row-values, text-checks}
 use Rattle.bristol_text.specs.Good.{Good}
 
-pub or-left : (a b : Bool) → (a || b) ≡ false → a ≡ false
-or-left true b e = e
-or-left false b e = refl
-
 -- the one place of a row
 alone : (p : ℕ) (t : Bool) → Clears (at-places (suc p) ((p, t) ∷ [])) → t ≡ false
 unfolding tested
-alone p t c = or-left t false (sym (rw (eq-eqb p p refl)) ∙ c p (omega arith))
+alone p t c = or-first t false (sym (rw (eq-eqb p p refl)) ∙ c p (omega arith))
 
 within-limits : (i g o : ℕ) → Clears (limits-row i g o) → Within i g o
 unfolding tested
 within-limits i g o c = record {
-  few-inputs = leb-true _ _ (not-false _ (or-left _ _ (c 0 (omega arith))));
-  few-gates = leb-true _ _ (not-false _ (or-left _ _ (c 1 (omega arith))));
-  few-outputs = leb-true _ _ (not-false _ (or-left _ _ (c 2 (omega arith))));
+  few-inputs = leb-true _ _ (not-false _ (or-first _ _ (c 0 (omega arith))));
+  few-gates = leb-true _ _ (not-false _ (or-first _ _ (c 1 (omega arith))));
+  few-outputs = leb-true _ _ (not-false _ (or-first _ _ (c 2 (omega arith))));
 }
 
 limits-within : (i g o : ℕ) → Within i g o → Clears (limits-row i g o)

@@ -1,4 +1,5 @@
 pub mod LineLaws
+pub mod CountLaws
 pub mod Faults
 pub mod GoodText
 pub mod Sane

@@ -10,6 +10,7 @@ use native.Mathlib.Omega.{arith}
 use lib.ListN.{length, getD}
 use lib.Dec.{leb, ltb, eqb}
 use borrow.Author.Tests.{leb-true, ltb-true, eqb-true}
+use Rattle.theory_calls.proofs.Limits.{and-first, and-second}
 use Rattle.bristol_text.specs.Words.{Number, is, none, number}
 use Rattle.bristol_text.specs.Lines.{Line, blank, bad, counts, widths, other-word, xor-gate, and-gate, inv-gate, eqw-gate}
 use Rattle.bristol_text.specs.Lines.{Numbers, are, broken, numbers, counts-line, total, widths-line, Rest, wires-word, no-rest, with-wire, rest, gate-word, gate-with, with-rest, with-counts, gate-line, line-says}
@@ -24,14 +25,6 @@ Said K W (eqw-gate x z) = (2 < K) × (x < W) × (z < W)
 Said K W blank = Unit {0}
 Said K W bad = Unit {0}
 Said K W other-word = Unit {0}
-
-pub and-left : (a b : Bool) → (a && b) ≡ true → a ≡ true
-and-left true b e = refl
-and-left false b e = e
-
-pub and-right : (a b : Bool) → (a && b) ≡ true → b ≡ true
-and-right true b e = e
-and-right false b e = cc
 
 counts-told : (W : ℕ) (ns : Numbers) → Said 0 W (counts-line ns)
 unfolding Said counts-line
@@ -50,7 +43,7 @@ unfolding Said widths-line
 widths-told K W a b (are (v ∷ xs)) = go (eqb (length xs) v && leb (total xs) W) refl
   where
     go : (t : Bool) → (eqb (length xs) v && leb (total xs) W) ≡ t → Said K W (cond t (widths xs) bad)
-    go true e = (a, b, leb-true _ _ (and-right (eqb (length xs) v) _ e))
+    go true e = (a, b, leb-true _ _ (and-second (eqb (length xs) v) _ e))
     go false e = tt
 widths-told K W a b (are []) = tt
 widths-told K W a b broken = tt
@@ -82,7 +75,7 @@ rest-told W zero (w ∷ v ∷ ws) = tt
 rest-told W (suc n) (w ∷ ws) = wire-told W n (number w) (rest W n ws) (rest-told W n ws)
 
 sum : (i o m : ℕ) → (eqb i m && eqb o 1) ≡ true → i + o ≡ m + 1
-sum i o m e = let a = eqb-true i m (and-left _ _ e) in let b = eqb-true o 1 (and-right (eqb i m) _ e) in omega arith
+sum i o m e = let a = eqb-true i m (and-first _ _ e) in let b = eqb-true o 1 (and-second (eqb i m) _ e) in omega arith
 
 -- "XOR and AND with 2 1, INV and EQW with 1 1"
 module _ (K W : ℕ) (i o : ℕ) (xs : List ℕ) (low : (k : ℕ) → k < i + o → getD xs k 0 < W) where

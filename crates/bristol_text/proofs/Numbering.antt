@@ -15,9 +15,9 @@ use lib.Dec.{ltb}
 use borrow.Author.Tests.{lt-ltb, ltb-true, ltb-false, eq-eqb}
 use Rattle.theory_files.specs.Written.{Numbers3}
 use Rattle.bristol_text.specs.Lines.{Line, blank, bad, counts, widths, other-word, xor-gate, and-gate, inv-gate, eqw-gate}
-use Rattle.bristol_text.specs.Heard.{writes, any-writes}
+use Rattle.bristol_text.specs.Heard.{known, writes, any-writes}
 use Rattle.bristol_text.specs.Renamed.{Renamed, rename, rename-all, inputs-alone}
-use Rattle.bristol_text.specs.Order.{known, Joins, Runs, none, more, our-gate, our-gates, Takes}
+use Rattle.bristol_text.specs.Order.{Joins, Runs, none, more, our-gate, our-gates, Takes}
 use Rattle.bristol_text.proofs.Behind.{or-true, known-more, known-there, rename-more, our-more, new-apart, kept, gates-grow}
 
 -- two numberings that agree on what is written give the same gates

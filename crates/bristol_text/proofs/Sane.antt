@@ -12,12 +12,13 @@ use native.Mathlib.Omega.{arith}
 use lib.ListN.{length, getD, take}
 use lib.Dec.{ltb}
 use borrow.Author.Tests.{not-true}
+use Rattle.theory_calls.proofs.Limits.{and-first, and-second}
 use Rattle.bristol_text.specs.Words.{words}
 use Rattle.bristol_text.specs.Lines.{Line, blank, bad, counts, widths, other-word, xor-gate, and-gate, inv-gate, eqw-gate, total}
 use Rattle.bristol_text.specs.Heard.{Heard, nothing-heard, hear-widths, hear-gate, hear, says, heard-from, heard, written, two-fault, one-fault, within, line-fault}
 use Rattle.bristol_text.specs.Order.{Old, New, Joins, Runs, none, more}
 use Rattle.bristol_text.specs.Call.{fault-at}
-use Rattle.bristol_text.proofs.LineLaws.{Said, and-left, and-right, line-told}
+use Rattle.bristol_text.proofs.LineLaws.{Said, line-told}
 use Rattle.bristol_text.specs.Good.{Good}
 
 pub record Sane (h : Heard) : Type 0 where
@@ -106,13 +107,13 @@ module _ (h : Heard) (s : Sane h) where
   pub two-joins : (x y z : ℕ) → within h (two-fault h x y z) ≡ 0 → x < W → y < W → z < W → Old I W (h .gates) x × Old I W (h .gates) y × New I W (h .gates) z
   two-joins x y z f a b c =
       let e = holds (written h x && written h y && not (written h z)) (no-fault (ltb (length (h .gates)) (h .said)) _ f) in
-      let xy = and-left (written h x && written h y) _ e in
-      ((a, and-left (written h x) _ xy), (b, and-right (written h x) _ xy), (c, not-true _ (and-right (written h x && written h y) _ e)))
+      let xy = and-first (written h x && written h y) _ e in
+      ((a, and-first (written h x) _ xy), (b, and-second (written h x) _ xy), (c, not-true _ (and-second (written h x && written h y) _ e)))
 
   pub one-joins : (x z : ℕ) → within h (one-fault h x z) ≡ 0 → x < W → z < W → Old I W (h .gates) x × New I W (h .gates) z
   one-joins x z f a c =
       let e = holds (written h x && not (written h z)) (no-fault (ltb (length (h .gates)) (h .said)) _ f) in
-      ((a, and-left (written h x) _ e), (c, not-true _ (and-right (written h x) _ e)))
+      ((a, and-first (written h x) _ e), (c, not-true _ (and-second (written h x) _ e)))
 
   pub sane-hears : (l : Line) → Said (h .stage) W l → line-fault h l ≡ 0 → Sane (hear h l)
   unfolding hear line-fault Said Joins

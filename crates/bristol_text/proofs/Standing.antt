@@ -19,10 +19,10 @@ use Rattle.theory_calls.proofs.PlainLaws.{inputs-length}
 use Rattle.theory_files.specs.Written.{Numbers3}
 use Rattle.theory_files.proofs.Whole.{gate-number, meant, listed, vals, vals-length, vals-more}
 use Rattle.bristol_text.specs.Lines.{Line, blank, bad, counts, widths, other-word, xor-gate, and-gate, inv-gate, eqw-gate}
-use Rattle.bristol_text.specs.Heard.{writes, any-writes}
+use Rattle.bristol_text.specs.Heard.{known, writes, any-writes}
 use Rattle.bristol_text.specs.Meaning.{put, wires-after, gates-after, input-wires}
 use Rattle.bristol_text.specs.Renamed.{Renamed, makes, rename, rename-all, inputs-alone}
-use Rattle.bristol_text.specs.Order.{known, Joins, Runs, none, more}
+use Rattle.bristol_text.specs.Order.{Joins, Runs, none, more}
 use Rattle.bristol_text.proofs.Behind.{known-before, rename-more, after-more}
 use Rattle.bristol_text.proofs.Numbering.{named}
 

@@ -25,13 +25,13 @@ use Rattle.theory_files.specs.Written.{Numbers3, Within}
 use Rattle.theory_files.proofs.ReadBack.{inputs-read, gates-read, outputs-read}
 use Rattle.theory_files.proofs.Opens.{small-written, bytes-fit}
 use Rattle.theory_files.proofs.Whole.{Fair, file-accepted, fair-fits, vals, shown, written-outs}
+use Rattle.theory_calls.proofs.Limits.{and-first, and-second}
 use Rattle.bristol_text.specs.Words.{lines}
 use Rattle.bristol_text.specs.Lines.{blank, total}
 use Rattle.bristol_text.specs.Heard.{Heard, heard, written, count-up, out-wires, all-written}
 use Rattle.bristol_text.specs.Meaning.{text-wires, text-outs}
 use Rattle.bristol_text.specs.Renamed.{renamed, spread, text-file}
 use Rattle.bristol_text.specs.Order.{our-gates, Takes, Named}
-use Rattle.bristol_text.proofs.LineLaws.{and-left, and-right}
 use Rattle.bristol_text.specs.Good.{Good}
 use Rattle.bristol_text.proofs.Sane.{Sane, good-sane}
 use Rattle.bristol_text.proofs.Numbering.{our-gates-are, inputs-keep, line-takes, no-gaps}
@@ -77,14 +77,14 @@ mapped-all : (h : Heard) (f : ℕ → ℕ) (P : ℕ → Type 0) → ((w : ℕ) �
     → (ws : List ℕ) → all-written h ws ≡ true → (k : ℕ) → k < length (map f ws) → P (getD (map f ws) k 0)
 unfolding all-written
 mapped-all h f P q [] a k l = absurd (omega arith)
-mapped-all h f P q (w ∷ ws) a zero l = q w (and-left _ _ a)
-mapped-all h f P q (w ∷ ws) a (suc k) l = mapped-all h f P q ws (and-right (written h w) _ a) k (omega arith)
+mapped-all h f P q (w ∷ ws) a zero l = q w (and-first _ _ a)
+mapped-all h f P q (w ∷ ws) a (suc k) l = mapped-all h f P q ws (and-second (written h w) _ a) k (omega arith)
 
 mapped-same : (h : Heard) (f : ℕ → ℕ) (p q : ℕ → ℕ) → ((w : ℕ) → written h w ≡ true → p (f w) ≡ q w)
     → (ws : List ℕ) → all-written h ws ≡ true → map p (map f ws) ≡ map q ws
 unfolding all-written
 mapped-same h f p q e [] a = refl
-mapped-same h f p q e (w ∷ ws) a = ap₂ (λ (v : ℕ) (vs : List ℕ). v ∷ vs) (e w (and-left _ _ a)) (mapped-same h f p q e ws (and-right (written h w) _ a))
+mapped-same h f p q e (w ∷ ws) a = ap₂ (λ (v : ℕ) (vs : List ℕ). v ∷ vs) (e w (and-first _ _ a)) (mapped-same h f p q e ws (and-second (written h w) _ a))
 
 module _ (text owners : List ℕ) (good : Good (lines text) owners) where
   abbrev h : Heard

@@ -19,16 +19,13 @@ use Rattle.theory_calls.proofs.Refusals.{Passes}
 use Rattle.theory_calls.proofs.RowLaws.{sizes-clear, clear-sizes}
 use Rattle.theory_calls.proofs.CallLaws.{accepts-passes, passes-accepts, accepts-does, does-refused, refused-verdict}
 use Rattle.theory_calls.proofs.Tidy.{Tidy, untouched}
+use Rattle.theory_files.proofs.Asked.{one-size}
 use Rattle.bristol_text.specs.Words.{lines}
 use Rattle.bristol_text.specs.Renamed.{text-file}
 use Rattle.bristol_text.specs.Call.{room-bytes, FromBristol}
 use Rattle.bristol_text.specs.Good.{Good}
 use Rattle.bristol_text.proofs.GoodText.{passes-good, good-passes}
 use Rattle.bristol_text.proofs.TextFile.{file-small}
-
-one-size : (a b : ℕ) → a ≡ b → (k : ℕ) → k < 1 → getD (a ∷ []) k 0 ≡ getD (b ∷ []) k 0
-one-size a b e zero h = e
-one-size a b e (suc k) h = absurd (omega arith)
 
 module _ (text owners room : List ℕ) where
   abbrev called : Call

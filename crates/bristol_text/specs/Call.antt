@@ -4,14 +4,14 @@
 -- T-01: "Refusals: 10 for the room, place 0; then, first by line and in this order on one line, 15 text not good, 16 any other gate word, 17 a
 -- wire read before it is written or written twice .., each with its line number; then, with the number of lines, 15 for a missing line, 17 for an
 -- output wire never written; then 4, place the count of values if the owners' list has another length, else the first bad value; then 2."
-use mathlib.Core.Bool.{not, cond, _&&_}
+use mathlib.Core.Bool.{not}
 use mathlib.Core.List.{List, [], _∷_, _++_}
 use Prim.Native.Nat.{ℕ, zero, suc}
 use lib.ListN.{length, getD, take}
-use lib.Dec.{ltb, eqb}
+use lib.Dec.{eqb}
 use Rattle.theory_sharing.specs.Store.{fill}
 use Rattle.theory_calls.specs.Answer.{done}
-use Rattle.theory_calls.specs.Checks.{Row, Refusal, refusal, at-places, one-to-three, buffers-check, limits-row}
+use Rattle.theory_calls.specs.Checks.{Row, Refusal, refusal, at-places, one-to-three, listed-row, buffers-check, limits-row}
 use Rattle.theory_calls.specs.Call.{Call, changes-nothing}
 use Rattle.bristol_text.specs.Words.{lines}
 use Rattle.bristol_text.specs.Lines.{total}
@@ -34,8 +34,7 @@ end-checks n h =
 
 -- "then 4, place the count of values if the owners' list has another length, else the first bad value"
 abbrev pub row-values : List ℕ → ℕ → Row
-row-values owners v =
-    record { span = suc v; bad = λ p. cond (eqb (length owners) v) (ltb p v && not (one-to-three (getD owners p 0))) (eqb p v) }
+row-values owners v = listed-row one-to-three owners v
 
 -- "then 2": "Wires are numbered anew, and our limits hold then."
 abbrev pub text-limits : Heard → Row

@@ -1,15 +1,15 @@
 -- What the lines of a text have said, one after the other, and what is wrong with a line behind those before it.
 --     Heard             header lines so far, gates said, wires, widths of inputs and of outputs, gate lines so far in order
 --     heard ls          behind the lines ls
---     written h w       wire w is an input, or a gate line wrote it
+--     known, written    wire w is an input, or a gate line wrote it
 --     line-fault h l    15, 16 or 17 for a line, 0 for none
 --     out-wires h       "Inputs are the lowest wires, outputs the highest."
 --     complete h        all three header lines, and as many gates as said
 use mathlib.Core.Bool.{Bool, true, false, not, cond, _&&_, _||_}
 use mathlib.Core.List.{List, [], _∷_, _++_}
-use Prim.Native.Nat.{ℕ, zero, suc, _+_, _-_}
+use Prim.Native.Nat.{ℕ, zero, suc, _-_}
 use lib.ListN.{length}
-use lib.Dec.{leb, ltb, eqb}
+use lib.Dec.{ltb, eqb}
 use Rattle.bristol_text.specs.Words.{words}
 use Rattle.bristol_text.specs.Lines.{Line, blank, bad, counts, widths, other-word, xor-gate, and-gate, inv-gate, eqw-gate, total, line-says}
 
@@ -70,9 +70,12 @@ unfoldable pub any-writes : List Line → ℕ → Bool
 any-writes [] w = false
 any-writes (l ∷ ls) w = writes l w || any-writes ls w
 
--- "an input counts as written"
+-- "an input counts as written": of I inputs and the gate lines ls
+abbrev pub known : ℕ → List Line → ℕ → Bool
+known I ls w = ltb w I || any-writes ls w
+
 abbrev pub written : Heard → ℕ → Bool
-written h w = ltb w (total (h .ins)) || any-writes (h .gates) w
+written h w = known (total (h .ins)) (h .gates) w
 
 -- "17 a wire read before it is written or written twice"
 abbrev pub two-fault : Heard → ℕ → ℕ → ℕ → ℕ

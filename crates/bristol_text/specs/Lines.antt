@@ -4,7 +4,7 @@
 --     line-says K W ws the line with words ws behind K header lines (3 stands for all of them) in a text with W wires
 -- T-01: "a line with gate and wire counts, a line with the number of input values and their widths, a line likewise for outputs, then one gate
 -- per line".
-use mathlib.Core.Bool.{Bool, cond, _&&_}
+use mathlib.Core.Bool.{cond, _&&_}
 use mathlib.Core.List.{List, [], _∷_}
 use Prim.Native.Nat.{ℕ, zero, suc, _+_}
 use lib.ListN.{length, getD}

@@ -10,7 +10,7 @@ use lib.Dec.{eqb}
 use Rattle.theory_calls.specs.Plain.{bit, byte}
 use Rattle.bristol_text.specs.Words.{lines}
 use Rattle.bristol_text.specs.Lines.{Line, blank, bad, counts, widths, other-word, xor-gate, and-gate, inv-gate, eqw-gate}
-use Rattle.bristol_text.specs.Heard.{Heard, heard, out-wires}
+use Rattle.bristol_text.specs.Heard.{heard, out-wires}
 
 -- the same but at z
 abbrev pub put : {A : Type 0} → (ℕ → A) → ℕ → A → ℕ → A

@@ -1,22 +1,16 @@
 -- Words of the theorems about a text: its gate lines in order, and our numbers of its wires.
---     known I ls w      wire w is one of the I inputs, or a line of ls writes it: T-01's "written"
 --     Joins, Runs       no "wire read before it is written or written twice": each line reads known wires and writes a new one, all below W
 --     our-gates f ls    the gates of lines ls on our numbers f of their wires: "XOR, AND and INV map to ours in the text's order; EQW renames a wire"
 --     Takes f n l       the number of the wire that a line writes: that of the wire read, as "EQW renames a wire", and n for any other gate
 --     Named             a number of ours, and the written wire of the text that has it
 use mathlib.Core.Path.{_≡_}
-use mathlib.Core.Bool.{Bool, true, false, _||_}
+use mathlib.Core.Bool.{true, false}
 use mathlib.Core.List.{List, [], _∷_, _++_}
 use Prim.Native.Nat.{ℕ, _<_}
-use lib.Dec.{ltb}
 use Rattle.theory_files.specs.Written.{Numbers3}
 use Rattle.bristol_text.specs.Lines.{Line, blank, bad, counts, widths, other-word, xor-gate, and-gate, inv-gate, eqw-gate}
-use Rattle.bristol_text.specs.Heard.{Heard, any-writes, written}
+use Rattle.bristol_text.specs.Heard.{Heard, known, written}
 use Rattle.bristol_text.specs.Renamed.{renamed}
-
--- "an input counts as written"
-abbrev pub known : ℕ → List Line → ℕ → Bool
-known I ls w = ltb w I || any-writes ls w
 
 abbrev pub Old : ℕ → ℕ → List Line → ℕ → Type 0
 Old I W ls x = (x < W) × (known I ls x ≡ true)

@@ -7,7 +7,8 @@
 ghost use mathlib.Core.Path.{_≡_};
 ghost use Prim.Native.Nat.{_+_, _*_, _-_, _≤_};
 ghost use lib.ListN.{length, set};
-ghost use Rattle.bristol_wires.specs.Mirror.{entry-of, ours-of, next-entry, two-fault-of, one-fault-of, fault-of, gate-put, kind-of-two, two-put, one-put, one-gate, map-after, gates-after, one-more, made-by, after-counts, after-widths, after-gate, text-after, nothing-read};
+ghost use Rattle.bristol_wires.specs.Mirror.{entry-of, ours-of, next-entry, two-fault-of, one-fault-of, fault-of, gate-put, kind-of-two, two-put, one-put, one-gate};
+ghost use Rattle.bristol_wires.specs.Mirror.{map-after, gates-after, one-more, made-by, after-counts, after-widths, after-gate, text-after, nothing-read};
 use bristol_text::Says;
 
 // What the lines before have said. stage: how many header lines there were. left: how many gate lines are still to come. made: our gates so far,

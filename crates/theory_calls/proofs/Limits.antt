@@ -17,15 +17,15 @@ use Rattle.theory_calls.specs.Family.{Family, circuit-with}
 use Rattle.theory_calls.specs.Checks.{tested, row-large, row-field, tapes-want, line-want}
 use Rattle.theory_calls.proofs.Refusals.{Clears}
 
-or-first : (a b : Bool) → (a || b) ≡ false → a ≡ false
+pub or-first : (a b : Bool) → (a || b) ≡ false → a ≡ false
 or-first true b e = e
 or-first false b e = refl
 
-and-first : (a b : Bool) → (a && b) ≡ true → a ≡ true
+pub and-first : (a b : Bool) → (a && b) ≡ true → a ≡ true
 and-first true b e = refl
 and-first false b e = e
 
-and-second : (a b : Bool) → (a && b) ≡ true → b ≡ true
+pub and-second : (a b : Bool) → (a && b) ≡ true → b ≡ true
 and-second true b e = e
 and-second false b e = absurd-false e
   where

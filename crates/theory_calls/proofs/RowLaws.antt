@@ -8,20 +8,58 @@ use mathlib.Core.Bool.{Bool, true, false, not, cond, _&&_, true≢false}
 use mathlib.Core.List.{List}
 use Prim.Native.Nat.{ℕ, suc, _+_, _-_, _<_, _≤_}
 use native.Mathlib.Omega.{arith}
+use native.Mathlib.Numerals.{add-one}
 use lib.ListN.{length, getD, List·getD-eq-default}
 use lib.Dec.{ltb, eqb}
-use borrow.Author.Tests.{lt-ltb, le-ltb, ltb-true, ltb-false, eqb-true, eq-eqb, not-false}
+use borrow.Author.Tests.{lt-ltb, le-ltb, ltb-true, ltb-false, eqb-true, eq-eqb, ne-eqb, not-false}
 use Rattle.theory_sharing.specs.Sites.{Site, is}
 use Rattle.theory_sharing.specs.Circuit.{Circuit}
-use Rattle.theory_sharing.proofs.FirstLaws.{Clear}
+use Rattle.theory_sharing.specs.First.{first}
+use Rattle.theory_sharing.proofs.FirstLaws.{Clear, first-at, first-none, first-hit, first-before, first-clear}
 use Rattle.theory_sharing.proofs.SiteLaws.{is-itself, Seen, itself, behind, before, seen, is-behind, is-before}
-use Rattle.theory_calls.specs.Checks.{numbers-row}
+use Rattle.theory_calls.specs.Checks.{Row, listed-row, numbers-row, fault}
 use Rattle.theory_calls.specs.AtBits.{bits-row}
 use Rattle.theory_calls.specs.Statements.{Family, bit-family, Fitting, Numbers, Bits, out-of, Keeps, Keeps}
 use Rattle.theory_calls.proofs.FamilyLaws.{Lawful, bit-lawful}
 
 and-left : (a b : Bool) → a ≡ true → (a && b) ≡ false → b ≡ false
 and-left a b e h = rw e at h
+
+-- the fault of such a list: the wanted length, an index, or one beyond
+module _ (fine : ℕ → Bool) (l : List ℕ) (want : ℕ) where
+  abbrev row : Row
+  row = listed-row fine l want
+
+  abbrev unfit : ℕ → Bool
+  unfit p = not (fine (getD l p 0))
+
+  as-long : length l ≡ want → (p : ℕ) → p < want → row .bad p ≡ unfit p
+  as-long e p h = rw (eq-eqb _ _ e, lt-ltb p want h)
+
+  pub listed-short : (length l ≡ want → ⊥) → want ≡ fault row
+  unfolding fault
+  listed-short h =
+      sym (first-at (row .bad) want (suc want) (λ p k. rw (ne-eqb (length l) want h, ne-eqb p want (λ e. omega arith))) (omega arith)
+      (rw (ne-eqb (length l) want h, eq-eqb want want refl)))
+
+  pub listed-bad : (k : ℕ) → length l ≡ want → k ≡ first unfit want → k < want → k ≡ fault row
+  unfolding fault
+  listed-bad k e q h =
+      let f : first unfit want < want = (let z : k ≡ first unfit want = q in omega arith) in
+      q
+      ∙ sym (first-at (row .bad) (first unfit want) (suc want) (λ p j. as-long e p (omega arith) ∙ first-before unfit want p j) (omega arith)
+      (as-long e (first unfit want) f ∙ first-hit unfit want f))
+
+  pub listed-sound : (k : ℕ) → length l ≡ want → k ≡ first unfit want → want ≤ k → want + 1 ≡ fault row
+  unfolding fault
+  listed-sound k e q h = add-one want ∙ sym (first-none (row .bad) (suc want) (λ p j. go p (ltb p want) refl))
+    where
+      clear : Clear unfit want
+      clear = first-clear unfit want (let z : k ≡ first unfit want = q in omega arith)
+
+      go : (p : ℕ) (b : Bool) → ltb p want ≡ b → row .bad p ≡ false
+      go p true t = let j : p < want = ltb-true p want t in as-long e p j ∙ clear p j
+      go p false t = rw (eq-eqb _ _ e, t)
 
 module _ (F : Family) (L : Lawful F) (l : List ℕ) (want : ℕ) where
   pub numbers-clear : Fitting F l → Clear (numbers-row F l want .bad) (suc want) → Numbers F l want

@@ -1,7 +1,7 @@
 -- 01's table of refusals, each line as a condition on what it tests, and the first that holds in a call's order.
 --     Row              one line of the table: its places are those below span, and bad p says that its condition holds at place p
 --     at-places        a row with few places, each with its test
---     numbers-row      "wrong length, else a byte above 1 | wanted length, else index"
+--     listed-row       "wrong length, else .. | wanted length, else index";  numbers-row: of a family's numbers
 --     Refusal          a line with the number that it gives at each place;  refusal N: the same number at all places
 --     header-checks, file-checks    1 to 3, and 1 to 6, of a circuit file;  inputs-check .. job-check: 7 to 14
 --     Holds r P        the condition of a line holds at place P
@@ -82,8 +82,12 @@ row-output f =
     record { span = outputs-of f; bad = λ k. not (ltb (output-at f i n k) (i + n)) }
 
 -- 7, 8, 9, 12: "wrong length, else a byte above 1 | wanted length, else index"
+-- by the test that each number has to pass
+abbrev pub listed-row : (ℕ → Bool) → List ℕ → ℕ → Row
+listed-row fine l want = record { span = suc want; bad = λ p. cond (eqb (length l) want) (ltb p want && not (fine (getD l p 0))) (eqb p want) }
+
 abbrev pub numbers-row : Family → List ℕ → ℕ → Row
-numbers-row F l want = record { span = suc want; bad = λ p. cond (eqb (length l) want) (ltb p want && not (F .fine (getD l p 0))) (eqb p want) }
+numbers-row F l want = listed-row (F .fine) l want
 
 abbrev pub tapes-want : Circuit → ℕ
 tapes-want C = 2 * C .ins + 6 * all-ands C

@@ -59,7 +59,7 @@ module _ (os : List ℕ) (gs : List Numbers3) (ws : List ℕ) (w : Within (lengt
       ap (λ (z : After). z .answer) (accepts-does (OutputAt written k) (passes-accepts (OutputAt written k) (asked-passes 6 _ (let e = outputs-read os gs ws in omega arith))))
       ∙ rw (inputs-read os gs ws, gates-read os gs ws, output-read os gs ws k)
 
-one-size : (a b : ℕ) → a ≡ b → (k : ℕ) → k < 1 → getD (a ∷ []) k 0 ≡ getD (b ∷ []) k 0
+pub one-size : (a b : ℕ) → a ≡ b → (k : ℕ) → k < 1 → getD (a ∷ []) k 0 ≡ getD (b ∷ []) k 0
 one-size a b e zero h = e
 one-size a b e (suc k) h = absurd (omega arith)
 

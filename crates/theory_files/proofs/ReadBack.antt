@@ -31,7 +31,7 @@ le16-at : (xs ys : List ℕ) (at n : ℕ) → at ≡ length xs + n → le16 (xs 
 le16-at xs ys at n e = ap (le16 (xs ++ ys)) e ∙ le16-behind xs ys n
 
 -- the parts' lengths
-length-header : (i g o : ℕ) → length (header-bytes i g o) ≡ 32
+pub length-header : (i g o : ℕ) → length (header-bytes i g o) ≡ 32
 unfolding header-bytes four two
 length-header i g o = refl
 
