@@ -1,6 +1,6 @@
 """Holds include/bakebutton.h, and the Rust crate over it, to the Rattle sources.
 
-- Every exported function of crates/door is declared, with the parameters and the result that its own text has, and no other is.
+- Every exported function, of crates/door_c, is declared, with the parameters and the result that its own text has, and no other is.
 - Each of them is asked by evaluator/door.c, by the Rust crate and its example, and stands in the Python package's table; bakebutton_text_bytes, which
   is a number and no call, by the first alone.
 - Every struct that goes out (crates/door_answers, #[repr(C)]) has the same members, of the same types, in the same order.
@@ -11,7 +11,7 @@
 - Each length's macro gives what door_answers::sizes_from and the header's own check compute, and each _MAX what the largest circuit needs.
 - The header defines no function but bakebutton_words, which .ci/words.py tries.
 - The Rust crate declares functions of the header, structs of the same members, and the same numbers.
-- VERSION is the version of the header, of CHANGES.md's first part and of the Rust crates; KIT names one kit.
+- VERSION is the version of the header, of CHANGES.md's first part and of the Rust crates; KIT names one kit, which README.md names too.
 """
 
 import pathlib
@@ -22,7 +22,8 @@ ROOT = pathlib.Path(__file__).resolve().parent.parent
 HEADER = (ROOT / "include" / "bakebutton.h").read_text()
 CHECKS = "crates/theory_calls/specs/Checks.antt"
 TEXT, HEARD = "crates/bristol_text/specs/Call.antt", "crates/bristol_text/specs/Heard.antt"  # the call on a text, and what is wrong with a line of it
-OWN = {"lines-check": "by line", "end-checks": "with the number of lines"}  # how the header tells them
+OWN = {"lines_check": "by line", "end_checks": "with the number of lines"}  # how the header tells them
+DOOR = "crates/door_c/src/lib.rt"  # the exported functions
 NUMBERS = {"usize": "size_t", "u8": "uint8_t", "u16": "uint16_t", "u32": "uint32_t"}
 TABLE = "uint32_t bits[3][3]"  # the same nine numbers as [u32; 9], row after row
 
@@ -43,7 +44,7 @@ def flat(text):
 
 def prototypes():
     """Each exported function as C declares it."""
-    for found in re.finditer(r'extern "C" fn (\w+)\(([^)]*)\)(?: -> (\w+))?', source("crates/door/src/lib.rt")):
+    for found in re.finditer(r'extern "C" fn (\w+)\(([^)]*)\)(?: -> (\w+))?', source(DOOR)):
         name, parameters, result = found.groups()
         words = []
         for parameter in filter(None, map(str.strip, parameters.split(","))):
@@ -60,7 +61,7 @@ def prototypes():
 
 def structs():
     """Each struct that goes out as C declares it."""
-    for name, body in re.findall(r"#\[repr\(C\)\]\npub struct (\w+) \{([^}]*)\}", source("crates/door_answers/src/lib.rt")):
+    for name, body in re.findall(r"#\[repr\(C\)\]\n(?:#\[derive\([^)]*\)\]\n)?pub struct (\w+) \{([^}]*)\}", source("crates/door_answers/src/lib.rt")):
         members = []
         for which, kind in re.findall(r"pub (\w+): ([^,]+),", body):
             array = re.fullmatch(r"\[(\w+); (\d+)\]", kind)
@@ -86,27 +87,27 @@ def bodies(path, names):
 def row_places(row):
     """The places of a row that has few of them; none for a row over an index. A row may be another one on numbers of its own."""
     (_, body), = bodies(CHECKS, row)
-    other = re.match(r"\s*([\w-]+-row) ", body)
+    other = re.match(r"\s*(\w+_row) ", body)
     return row_places(other.group(1)) if other else [int(place) for place in re.findall(r"[(∷] ?\((\d+), not", body)]
 
 
 def line_numbers():
     """The refusals that a line of a text can get, in their order on one line."""
-    clauses = re.findall(r"^(?:line-fault|within|two-fault|one-fault) [^=\n]*= (.*)$", source(HEARD), re.M)
+    clauses = re.findall(r"^(?:line_fault|within|two_fault|one_fault) [^=\n]*= (.*)$", source(HEARD), re.M)
     return sorted({int(number) for clause in clauses for number in re.findall(r"\b[1-9]\d*\b", clause)})
 
 
 def checks_in(text, named):
     """A list of checks in its order, each as how it is told and its number: it is `refusal N ..`, or stands for its own by its name."""
-    found = re.findall(r"\brefusal (\d+) |(?<![\w-])([\w-]+-checks?)(?![\w-])", text)
+    found = re.findall(r"\brefusal (\d+) |\b(\w+_checks?)\b", text)
     return [check for number, name in found for check in ([("", int(number))] if number else named[name])]
 
 
 def named_checks():
     named = {}
     for path in (CHECKS, TEXT):
-        for name, body in bodies(path, r"\S+-checks?"):
-            own = [("", number) for number in line_numbers()] if "number = fault-at" in body else checks_in(body, named)
+        for name, body in bodies(path, r"\S+_checks?"):
+            own = [("", number) for number in line_numbers()] if "number = fault_at" in body else checks_in(body, named)
             named[name] = [(OWN.get(name, how), number) for how, number in own]
     return named
 
@@ -121,7 +122,7 @@ def blocks():
 
 def orders():
     """The one order of the calls on a circuit file or a job, and the numbers of each call's checks in their order."""
-    fixed = list_of(re.search(r"^fixed-order = (.*)$", source("crates/theory_demands/specs/Public.antt"), re.M).group(1))
+    fixed = list_of(re.search(r"^fixed_order = (.*)$", source("crates/theory_demands/specs/Public.antt"), re.M).group(1))
     return fixed, {name: [number for _, number in checks] for name, checks in blocks().items()}
 
 
@@ -137,8 +138,8 @@ def told(checks):
 
 def promised():
     """The call that each exported function promises; none for one that is no call."""
-    for name, contract in re.findall(r'pub extern "C" fn bakebutton_(\w+)\([^{]*?ensures (.*?)\n\{', source("crates/door/src/lib.rt"), re.S):
-        found = re.search(r"\bdoes \((\w+)|\bTells\w*\b[^⌝]*?\(([A-Z]\w*) ", contract)
+    for name, contract in re.findall(r'pub extern "C" fn bakebutton_(\w+)\([^{]*?ensures (.*?)\n\{', source(DOOR), re.S):
+        found = re.search(r"\bdoes \((\w+)|\bTells\w*\b[^{}]*?\(([A-Z]\w*) ", contract)
         if found:
             yield name, found.group(1) or found.group(2)
 
@@ -248,6 +249,8 @@ def version_problems():
             yield f"{path} has not the version {version}"
     if not re.fullmatch(r"\S.*\S\n", source("KIT")):
         yield "KIT is not one line that names a kit"
+    elif f"`{source('KIT').strip()}`" not in source("README.md"):
+        yield "README.md names another kit than KIT"
 
 
 def comment_before(declaration):
@@ -265,10 +268,10 @@ def text_problems(table):
     declaration = "struct bakebutton_file_answer bakebutton_from_bristol("
     if HEADER.count(declaration) != 1 or f" Checks {order}. " not in comment_before(declaration):
         yield f"the comment on bakebutton_from_bristol does not say: Checks {order}"
-    (_, ends), = bodies(TEXT, "end-checks")
-    (_, checks), = bodies(TEXT, "text-checks")
-    behind = [number for how, number in own if how == OWN["end-checks"]]
-    if list_of(" ".join(re.findall(r"refusal (\d+) \(at-places \(suc n\) \(\(n, not", ends))) != behind or "end-checks (length ls) " not in checks:
+    (_, ends), = bodies(TEXT, "end_checks")
+    (_, checks), = bodies(TEXT, "text_checks")
+    behind = [number for how, number in own if how == OWN["end_checks"]]
+    if list_of(" ".join(re.findall(r"refusal (\d+) \(at_places \(suc n\) \(\(n, not", ends))) != behind or "end_checks (length ls) " not in checks:
         yield f"the places of {behind} behind a text's lines are not the number of lines"
     for number in line_numbers():
         place = "line number" + (", else number of lines" if number in behind else "")
@@ -276,7 +279,7 @@ def text_problems(table):
             yield f"the place of {number} is {place}"
     if ("", 4) in own and HEADER.count("  count of input values, else value number\n") != 1:
         yield "the comment's table does not say what the place of 4 is for a text"
-    (_, room), = bodies(TEXT, "room-bytes")
+    (_, room), = bodies(TEXT, "room_bytes")
     if defined("FILE_ROOM_BYTES") != int(room):
         yield f"a text's file is lent {room.strip()} bytes"
 
@@ -306,7 +309,7 @@ def problems():
 
     answers = source("crates/theory_calls/specs/Answer.antt")
     for case, name in (("good vs", "GOOD"), ("abort o m", "ABORT")):
-        number = int(re.search(rf"^number-of \({case}\) = (\d+)$", answers, re.M).group(1))
+        number = int(re.search(rf"^number_of \({case}\) = (\d+)$", answers, re.M).group(1))
         if defined(name) != number:
             yield f"BAKEBUTTON_{name} is not {number}"
 
@@ -318,7 +321,7 @@ def problems():
     table = {int(n): text.rstrip() for n, text in re.findall(r"^ \*\s+(\d+)   (\w.*)$", HEADER, re.M)}
     if list(table) != numbers:
         yield f"the comment's table of refusals has {list(table)}"
-    for row, number in (("row-short", 1), ("row-large", 2), ("row-field", 3), ("row-site", 11), ("row-job", 14)):
+    for row, number in (("row_short", 1), ("row_large", 2), ("row_field", 3), ("row_site", 11), ("row_job", 14)):
         places = [str(place) for place in row_places(row)]
         said = (", ".join(places[:-1]) + " or " if places[1:] else "") + places[-1]
         if not re.search(rf"(?:^|\s){said}$", table[number]):
@@ -360,7 +363,7 @@ def problems():
         yield f"the limits are {large}"
     if flat(HEADER).count("({:,}; {:,}; {:,})".format(*large)) != 1:
         yield "the comment's table has other limits"
-    kinds = {kind: pattern.count("suc") for pattern, kind in re.findall(r"^gate-of (\(suc.*\)|zero) a b = (\w+)", source("crates/theory_calls/specs/File.antt"), re.M)}
+    kinds = {kind: pattern.count("suc") for pattern, kind in re.findall(r"^gate_of (\(suc.*\)|zero) a b = (\w+)", source("crates/theory_calls/specs/File.antt"), re.M)}
     for kind, number in kinds.items():
         if defined(kind) != number:
             yield f"{kind} is kind {number}"

@@ -2,9 +2,10 @@
 
 - Every folder under crates/ is a line of crates.txt, and the other way round.
 - No definition or proof declares an axiom.
-- A public call is a function whose comment begins "PUBLIC."; every exported function (`extern "C"`) is one. Each such mark has its function, none
-  has a `requires`, each cites `does (` in its promise (one that takes nothing is a number, and no call), and
-  docs/STATEMENTS.md has exactly these functions in its tables.
+- A public call is a function whose comment begins "PUBLIC.". Each such mark has its function, none has a `requires`, each cites `does (` in its
+  promise (one that takes nothing is a number, and no call), and docs/STATEMENTS.md has exactly these functions in its tables.
+- The exported functions (`extern "C"`) are those of crates/door, each a public call, once more in crates/door_c, the static library: comment, name,
+  parameters, result and clauses are word for word those of door, and the body hands the parameters on to door's.
 - What the checker reads in each public function's contract is pinned to its sentence (crates/theory_wrong/proofs, Promise.antt and PromiseForC.antt).
 - The closed list of public calls (crates/theory_demands/specs/Public.antt) is that of the sources: the call that a public function promises stands
   in it, whole; every call in it is promised by one; no name stands for two calls; a call that reads a circuit file is in OnFile; and
@@ -17,12 +18,12 @@
 - docs/ARCHITECTURE.md has a row for each crate, and for none besides.
 - Every must-fail edit says in its first line what wrong program it is, and each text that it changes stands once where it says; so does each text
   that the comment of a wrong answer (crates/theory_wrong) says is changed.
-- Sources are in the toolchain's layout (`rt fmt --check`).
+
+That sources are in the toolchain's layout is held by `rt ci`, which refuses those that are not.
 """
 
 import pathlib
 import re
-import subprocess
 import sys
 
 sys.dont_write_bytecode = True  # nothing is written beside the sources
@@ -35,13 +36,13 @@ def listed():
     for line in (ROOT / "crates.txt").read_text().splitlines():
         line = line.split("#")[0].strip()
         if line:
-            names.add(line.split(":")[0].strip())
+            names.add(line.split(":")[0].split()[0])  # a static library has a word behind its name
     return names
 
 
 MARK = re.compile(r"//+\s*PUBLIC\b")
 FUNCTION = re.compile(r"\s*pub (?:extern \"C\" )?fn (\w+)")
-EXPORTED = re.compile(r"\bextern \"C\" fn (\w+)")
+EXPORT = '#[unsafe(no_mangle)]\npub extern "C" fn'
 NOTHING = re.compile(r"fn \w+\(\)")  # a function that takes nothing: a number, and no call
 PLACE = re.compile(r"\[`(\w+)`\]\(\.\./(crates/[^)]+/src/[^)]+\.rt)\)")  # in a row of the map's tables of public calls; a row may have several
 
@@ -49,6 +50,11 @@ PLACE = re.compile(r"\[`(\w+)`\]\(\.\./(crates/[^)]+/src/[^)]+\.rt)\)")  # in a 
 def sources():
     for path in sorted((ROOT / "crates").glob("*/src/**/*.rt")):
         yield path.relative_to(ROOT), path.read_text().splitlines()
+
+
+def written(kind):
+    """The crates' files of a kind, without what rt made of them."""
+    return [path for path in sorted((ROOT / "crates").rglob(kind)) if path.relative_to(ROOT).parts[2] != "out"]
 
 
 def head(lines, start):
@@ -72,27 +78,43 @@ def public_calls():
             yield path, found and found.group(1), head(lines, after)
 
 
-def unmarked():
-    """Path and name of each exported function that is not marked as public."""
-    marked = {(path, name) for path, name, _ in public_calls()}
+def functions_of(text):
+    """What stands in a file before its first function, and each function with its comment, by name."""
+    begins, *parts = re.split(r"^(?=// [^\n]*\n(?:// [^\n]*\n)*(?:#\[[^\n]*\n)*pub )", text, flags=re.M)
+    return begins, {re.search(r"^pub (?:extern \"C\" )?fn (\w+)", part, re.M).group(1): part.strip() for part in parts}
+
+
+def export_problems():
+    """Of the static library, against the library that it hands on to."""
     for path, lines in sources():
-        for line in lines:
-            found = EXPORTED.search(re.sub(r"//.*", "", line))
-            if found and (path, found.group(1)) not in marked:
-                yield path, found.group(1)
+        if path.parts[1] != "door_c" and re.search(r"\bextern\b|\bno_mangle\b", re.sub(r"//.*", "", "\n".join(lines))):
+            yield f"{path}: exports something, and crates/door_c alone does"
+    (begins, inside), (exports_begin, outside) = (functions_of((ROOT / "crates" / crate / "src" / "lib.rt").read_text()) for crate in ("door", "door_c"))
+    marked = {name for path, name, _ in public_calls() if path.parts[1] == "door"}
+    for name in sorted(set(inside) ^ set(outside) | set(inside) ^ marked):
+        yield f"{name} is not a public call of crates/door and an export of crates/door_c"
+    ghosts = [re.findall(r"^ghost use .*?;$|^use .*?;$", text, re.M | re.S) for text in (begins, exports_begin)]
+    if ghosts[0] != ghosts[1] or re.search(r"^(?!//|#!\[|ghost use |use |};)\S", exports_begin, re.M):
+        yield "crates/door_c has other words for its clauses than crates/door, or more than its exports"
+    for name in sorted(set(inside) & set(outside)):
+        told = inside[name][:inside[name].rindex("\n{\n")]
+        given = re.findall(r"(\w+): &?(?:mut )?[\w\[\]]+", told[told.index("fn "):].split("ensures")[0])
+        export = told.replace("// PUBLIC. ", "// ", 1).replace("\npub fn", "\n" + EXPORT, 1)
+        if outside[name] != f"{export}\n{{\n    door::{name}({', '.join(given)})\n}}":
+            yield f"crates/door_c: {name} is not word for word that of crates/door, handed on"
 
 
 DECLARED = re.compile(r"^[ ]*(?:(?:unfoldable|abbrev)[ ]+)*pub[ ]+(\S+) :([^\n]*(?:\n[ ]+[^\n]*)*)", re.M)
 DATA = re.compile(r"^pub data (\w+) : Call → Type 0 where\n((?:[ ]+[^\n]*\n?)*)", re.M)
 MEMBER = re.compile(r"^  \S+ : (.*) → \w+ \((\S+)((?: \w+)*)\)$", re.M)
-PROMISED = re.compile(r"\bdoes \(([^\s()]+)|\bTells\w*\b[^⌝]*?\(([A-Z][^\s()]*) ")
-WRONG = re.compile(r"^  call = (?:K-)?(\w+)", re.M)
+PROMISED = re.compile(r"\bdoes \(([^\s()]+)|\bTells\w*\b[^{}]*?\(([A-Z][^\s()]*) ")
+WRONG = re.compile(r"^  call = (?:K_)?(\w+)", re.M)
 CALLS_ROW = re.compile(r"^\| \[`(\w+)`\]\(\.\./crates/[^)]+/specs/[^)]+\.antt\)", re.M)
 
 
 def defined_calls():
     """Each definition into Call, with its text: a name that occurs twice is there twice."""
-    for path in sorted((ROOT / "crates").rglob("*.antt")):
+    for path in written("*.antt"):
         text = re.sub(r"--.*", "", path.read_text())
         for found in DECLARED.finditer(text):
             if re.search(r"(?:^|→)\s*Call\s*$", found.group(2).split("\nunfolding")[0]):
@@ -118,8 +140,8 @@ def call_problems():
         if name in bodies:
             yield f"two calls are named {name}"
         bodies[name] = body
-    for path in sorted((ROOT / "crates").rglob("*.antt")) + sorted((ROOT / "crates").rglob("*.rt")):
-        for name in re.findall(r"[\w-]+ as ([\w′″-]+)[,}]", path.read_text()):
+    for path in written("*.antt") + written("*.rt"):
+        for name in re.findall(r"[\w-]+ as ([\w'-]+)[,}]", path.read_text()):
             if name in bodies:
                 yield f"{path.relative_to(ROOT)} brings another thing in as {name}, which is a call"
     listed_calls = set()
@@ -127,7 +149,7 @@ def call_problems():
         listed_calls.add(call)
         if call not in bodies or not whole:
             yield f"{where}: {call} is no call, or not on variables of its own"
-        elif kind != "OnFile" and re.search(r"(?:header|file)-checks", bodies[call]):
+        elif kind != "OnFile" and re.search(r"(?:header|file)_checks", bodies[call]):
             yield f"{where}: {call} reads a circuit file and is not in OnFile, whose checks stand in the one order"
     promised, for_c = set(), set()
     rows = "".join(path.read_text() for path in (ROOT / "crates" / "theory_wrong" / "specs").glob("*.antt"))
@@ -198,11 +220,10 @@ def public_problems():
         yield "no public call is seen"
     pins = [(ROOT / "crates" / "theory_wrong" / "proofs" / file).read_text() for file in ("Promise.antt", "PromiseForC.antt")]
     for name, path in sorted(seen):
-        used = rf"^use Rattle·{path.split('/')[1]}\.proofs\.{name}(?:\.Reads)? as (\w+)$"
-        if not any(re.search(rf"^\s+→ {alias}\.(?:Learnt|clauses) ", text, re.M) for text in pins for alias in re.findall(used, text, re.M)):
+        used = rf"^use Rattle\.{path.split('/')[1]}\.(?:proofs\.{name}(?:\.Reads)?|specs\.contracts\.{name}) as (\w+)$"
+        if not any(re.search(rf"^\s+→ \(?{alias}\.(?:Learnt|clauses) ", text, re.M) for text in pins for alias in re.findall(used, text, re.M)):
             yield f"{path}: the contract of {name} is not pinned in crates/theory_wrong/proofs"
-    for path, name in unmarked():
-        yield f"{path}: {name} is exported and not marked PUBLIC"
+    yield from export_problems()
     for path, name, contract in over_reader():
         if re.search(r"^\s*requires\b", contract, re.M):
             yield f"{path}: {name} is over a Reader, can be reached from outside and has a requires"
@@ -248,7 +269,7 @@ def answer_problems():
         yield "no wrong answer is seen"
     text = "".join(path.read_text() for path in sorted((ROOT / "crates" / "theory_wrong").glob("*/*.antt")))
     rows = re.findall(r"^((?:--.*\n)*)(?:abbrev )?pub (\S+) : (Wrong|WrongTold|WrongStruct)$", text, re.M)
-    members = set(re.findall(r"[\w-]+", " ".join(re.findall(r"^wrong-(?:reads|runs|texts|tolds|structs) =((?:.|\n +)*)", text, re.M))))
+    members = set(re.findall(r"[\w-]+", " ".join(re.findall(r"^wrong_(?:reads|runs|texts|tolds|structs) =((?:.|\n +)*)", text, re.M))))
     for above, name, _ in rows:
         if name not in members:
             yield f"crates/theory_wrong: the wrong answer {name} is in no list, so that no theorem speaks of it"
@@ -297,16 +318,13 @@ def problems():
     rows = re.findall(r"^\| `(\w+)` \|", (ROOT / "docs" / "ARCHITECTURE.md").read_text(), re.M)
     for name in sorted(folders ^ set(rows)):
         yield "docs/ARCHITECTURE.md: its tables of crates have " + (f"no {name}" if name in folders else f"{name}, which is none")
-    for path in sorted((ROOT / "crates").rglob("*.antt")):
+    for path in written("*.antt"):
         for number, line in enumerate(path.read_text().splitlines(), 1):
             if re.match(r"\s*axiom\b", line):
                 yield f"{path.relative_to(ROOT)}:{number}: an axiom"
     for path in sorted((ROOT / "crates").glob("*/must-fail/*.edit")):
         for problem in edit_problems(path):
             yield f"{path.relative_to(ROOT)} {problem}"
-    done = subprocess.run(["rt", "fmt", "--check"], cwd=ROOT, capture_output=True, text=True)
-    if done.returncode:
-        yield "rt fmt --check: " + (done.stdout + done.stderr).strip()
 
 
 def main():

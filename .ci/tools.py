@@ -18,8 +18,11 @@ K1 = ROOT / "crates" / "listing_program" / "stdin"
 FAKE = """#!/bin/sh
 [ "$1" != version ] || exec cat "$FAKE_KIT"
 echo called >>"$FAKE_CALLS"
-echo 'rt: theory_sharing proved (3 s)'
-echo 'rt: theory_calls NOT PROVED (exit 1, 2 s)'
+echo 'rt: chose --jobs 2 for theory_sharing'
+echo 'logic=proved functions=0 sum=0 native=nat,char,string'
+echo 'rt: chose --jobs 2 for theory_calls'
+echo 'logic=not-proved'
+echo 'rt: the library theory_calls did not build, so nothing above it was checked' >&2
 exit "$FAKE_STATUS"
 """
 

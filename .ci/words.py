@@ -73,11 +73,11 @@ def wanted():
     """Each answer's number and places by the definitions; None is any place."""
     every = {number: [None] for number in header.line_numbers()}
     every[15].insert(0, 0)  # the number of lines of a text that has none, and of no other
-    for number, name in re.findall(r"\brefusal ([1-9]\d*) \(([\w-]+)", source(header.CHECKS)):
+    for number, name in re.findall(r"\brefusal ([1-9]\d*) \((\w+)", source(header.CHECKS)):
         every[int(number)] = sorted(header.row_places(name)) or [None]
     answers = source("crates/theory_calls/specs/Answer.antt")
-    every[int(re.search(r"^number-of \(abort o m\) = (\d+)$", answers, re.M).group(1))] = [None]
-    every[int(re.search(r"^number-of \(good vs\) = (\d+)$", answers, re.M).group(1))] = [0]
+    every[int(re.search(r"^number_of \(abort o m\) = (\d+)$", answers, re.M).group(1))] = [None]
+    every[int(re.search(r"^number_of \(good vs\) = (\d+)$", answers, re.M).group(1))] = [0]
     return every
 
 

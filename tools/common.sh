@@ -44,26 +44,32 @@ need_rt() {
     command -v rt >/dev/null || fail "rt, the command of the Rattle kit, is not here: is the kit's bin folder on PATH?"
 }
 
-# Sets tools: the folder of the kit's compiler, linker and C library for x86-64 and, on another machine, emulator.
+# Sets tools: the folder of the kit's compiler, linker and C library for x86-64.
 find_tools() {
     need_rt
-    kit=${RATTLE_HOME:-$(CDPATH='' cd -- "$(dirname -- "$(readlink -f "$(command -v rt)")")/.." && pwd -P)}
-    tools=$kit/on/$(uname -m)/toolchain
-    [ -d "$tools" ] || fail "the kit has nothing for this machine, $(uname -m)"
+    kit=$(CDPATH='' cd -- "$(dirname -- "$(readlink -f "$(command -v rt)")")/.." && pwd -P)
+    tools=$kit/toolchain
+    [ -d "$tools" ] || fail "the kit has no folder toolchain"
 }
 
-# The crates of crates.txt that a crate stands on, itself among them.
+# Sets emulator: what runs programs for x86-64 on another machine, and nothing on such a one.
+find_emulator() {
+    emulator=''
+    [ "$(uname -m)" = x86_64 ] || emulator=$(command -v qemu-x86_64) || fail "there is no emulator for x86-64 here, qemu-x86_64 (Debian: qemu-user)"
+}
+
+# The crates of crates.txt that a crate stands on, in the order in which rt builds them, and itself as the last.
 crates_under() {
     awk -v crate="$1" '
         function visit(n,    k, m, a) {
             if (!(n in needs) || n in seen) return
             seen[n] = 1
-            print n
             m = split(needs[n], a, " ")
             for (k = 1; k <= m; k++) visit(a[k])
+            print n
         }
         { sub(/#.*/, ""); at = index($0, ":") }
-        at { n = substr($0, 1, at - 1); gsub(/[ \t]/, "", n); needs[n] = substr($0, at + 1) }
+        at { split(substr($0, 1, at - 1), w, " "); needs[w[1]] = substr($0, at + 1) } # behind the name may stand staticlib
         END { visit(crate) }' "$root/crates.txt"
 }
 
@@ -75,32 +81,27 @@ stale() {
     [ -n "$newer" ]
 }
 
-# Counts the crates that rt says are proved, of so many, and keeps what it says: followed FILE COUNT
+# Tells how many crates are proved, of those under one, and keeps what rt says: followed FILE CRATE
+# Of those that did not change rt says nothing; they are counted by their place in its order.
 followed() {
-    count=0
+    under=$(crates_under "$2") on='' since=0
     while IFS= read -r line; do
         printf '%s\n' "$line" >>"$1"
         case $line in
-        'rt: '*' proved (unchanged '*)
-            count=$((count + 1))
-            [ -z "$old" ] || [ $((count + 1)) -ne "$2" ] || say "$count of $2 crates proved"
+        'rt: chose --jobs '*' for '*) on=${line##* } since=$(date +%s) ;;
+        'logic=proved '*)
+            say "$(printf '%s\n' "$under" | sed -n "/^$on\$/=") of $(printf '%s\n' "$under" | wc -l) crates proved ($on, $(($(date +%s) - since)) s)"
             ;;
-        'rt: '*' proved ('*)
-            count=$((count + 1)) line=${line#rt: }
-            say "$count of $2 crates proved (${line%% *}, ${line##*(}"
-            ;;
-        'rt: target/staticlib/'*) say "$((count + 1)) of $2 crates proved" ;;
         esac
     done
 }
 
 # Has rt prove a crate and all that it stands on, and make a file of it. How far it is goes to standard error, and what rt says of a crate that
 # is not proved. A crate that did not change is not proved again.
-#     prove CRATE FILE WORDS..     rt's words
+#     prove CRATE FILE VERB     rt's verb: lib, or run, which also runs the program once, on nothing
 prove() {
     need_rt
     crate=$1 made=$2 old='' total=$(crates_under "$1" | wc -l)
-    shift 2
     if stale "$made" "$crate"; then
         old=yes
         say "proving $crate and what it stands on, $total crates: some minutes the first time"
@@ -108,19 +109,19 @@ prove() {
     : >"$work/began" # what changes from here on is newer than what is made
     : >"$work/rt"
     {
-        (cd "$root" && rt "$@") </dev/null 2>&1
+        (cd "$root/crates/$crate" && rt "$3") </dev/null 2>&1
         echo $? >"$work/status"
-    } | followed "$work/rt" "$total"
+    } | followed "$work/rt" "$crate"
     status=$(cat "$work/status")
     [ "$status" -ne 0 ] || {
         touch -r "$work/began" "$made" 2>/dev/null # where it may not be written nothing is lost
         return
     }
-    grep -v -e '^rt: [^ ]* proved (' -e '^fn .*: proved$' -e '^library ' -e '^logic ' -e '^logic=proved ' "$work/rt" >&2
+    grep -v -e '^rt: chose ' -e ': proved$' -e '^statements ' -e '^library ' -e '^crate ' -e '^axioms ' -e '^only=' -e '^linked ' -e '^logic ' -e '^logic=proved ' "$work/rt" >&2
+    ! grep -q '^rt: running ' "$work/rt" || fail "$crate is proved, and its run failed"
     case $status in
     1)
-        ! grep -q "^rt: $crate proved, and its run FAILED" "$work/rt" || fail "$crate is proved, and its run failed"
-        unproved=$(sed -n 's/^rt: \([^ ]*\) NOT PROVED.*/\1/p' "$work/rt" | head -n 1)
+        unproved=$(sed -n 's/^rt: the library \([^ ]*\) did not build.*/\1/p' "$work/rt" | head -n 1)
         fail "the proof failed: ${unproved:-$crate} is not proved, and nothing was made"
         ;;
     3) fail "the prover could not tell whether $crate is proved, and nothing was made" ;;

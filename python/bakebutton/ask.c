@@ -1,4 +1,4 @@
-/* Asks the library for a Python that cannot load it: on Arm this program runs under the kit's emulator (helper.py builds and starts it).
+/* Asks the library for a Python that cannot load it: on Arm this program runs under an emulator (helper.py builds and starts it).
  *
  * It reads calls from standard input and writes what they answer to standard output, until the input ends. Numbers are eight bytes, lowest
  * first. A call is its code (calls.py has the table), its number, how many slices are given, for each its length and its bytes, how many

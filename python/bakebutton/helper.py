@@ -1,4 +1,4 @@
-"""Asks the library through a helper program, for a Python that cannot load it (on Arm the kit's emulator runs the program).
+"""Asks the library through a helper program, for a Python that cannot load it (on Arm an emulator runs the program).
 
 The program is ask.c over the static library. It is built once by tools/cc, run by tools/run86, and answers calls for as long as this
 Python lives; what it is told and tells is in ask.c's head.

@@ -13,7 +13,7 @@ def in_repository(*parts):
 WORDS = in_repository("include", "words.txt")
 HEADERS = in_repository("include")
 SHARED = in_repository("target", "lib", "libbakebutton.so")
-STATIC = (in_repository("target", "lib", "libbakebutton.a"), in_repository("target", "staticlib", "libdoor.a"))
+STATIC = (in_repository("target", "lib", "libbakebutton.a"),)
 HELPER = in_repository("target", "lib", "bakebutton-ask")
 HELPER_SOURCE = os.path.join(os.path.dirname(os.path.abspath(__file__)), "ask.c")
 

@@ -6,25 +6,25 @@
 -- Assumes nothing.
 use mathlib.Core.Path.{◌≡◌, refl, sym, ap, ap₂, ◌∙◌, subst}
 use mathlib.Core.Bool.{Bool, true, false, not, cond, ◌&&◌, ◌||◌}
-use mathlib.Core.List.{List, [], ◌∷◌, ◌++◌}
-use Prim.Native.Nat.{ℕ, zero, suc, ◌+◌, ◌*◌, ◌-◌, ◌<◌, ◌≤◌}
+use mathlib.Core.List.{List, [], ◌∷◌}
+use Prim.Native.Nat.{ℕ, suc, ◌-◌, ◌≤◌}
 use native.Mathlib.Omega.{arith}
-use lib.ListN.{length, get_or, replicate}
-use lib.Dec.{leb, eqb}
+use lib.ListN.{length, replicate}
+use lib.Dec.{eqb}
 use borrow.Author.Tests.{eq-eqb, ne_eqb, eqb-true}
 use Rattle.theory_sharing.specs.First.{first}
 use Rattle.theory_sharing.specs.Store.{fill}
 use Rattle.theory_calls.specs.File.{size}
-use Rattle.theory_calls.specs.Answer.{After, good}
-use Rattle.theory_calls.specs.Checks.{Refusal, refusal, at_places, limits_row, fault, Verdict, accepted, refuses, verdict}
+use Rattle.theory_calls.specs.Answer.{good}
+use Rattle.theory_calls.specs.Checks.{Refusal, refusal, at_places, limits_row, fault, accepted, refuses, verdict}
 use Rattle.theory_calls.specs.Call.{Call, settle, does}
 use Rattle.theory_calls.proofs.Limits.{and_first}
 use Rattle.theory_calls.proofs.Places.{Rising, refuse_at, place_verdict}
 use Rattle.bristol_text.specs.Words.{lines}
 use Rattle.bristol_text.specs.Lines.{are, numbers, total}
 use Rattle.bristol_text.specs.Heard.{Heard, heard, out_wires, all_written, complete, count_up}
-use Rattle.bristol_text.specs.Renamed.{renamed, heard_file, text_file}
-use Rattle.bristol_text.specs.Call.{lines_check, end_checks, row_values, text_limits, text_checks, FromBristol}
+use Rattle.bristol_text.specs.Renamed.{renamed, text_file}
+use Rattle.bristol_text.specs.Call.{lines_check, row_values, text_limits, text_checks, FromBristol}
 use Rattle.bristol_text.specs.Good.{Good}
 use Rattle.bristol_text.proofs.GoodText.{accepted_good}
 use Rattle.bristol_text.proofs.Sane.{Sane}

@@ -1,11 +1,13 @@
 // A circuit from the public shelf: a Bristol Fashion text, read with an owner for each input value, and our circuit file written.
+#![tactic(auto)]
+
 ghost use Rattle.std.specs.Prelude.{◌≡◌, ◌≤◌, length, replicate};
 ghost use Rattle.theory_calls.specs.Call.{does};
 ghost use Rattle.bristol_text.specs.Call.{FromBristol};
 ghost use Rattle.bristol.specs.Answers.{filed_after};
 
 // How many bytes of the room are the file; or a refusal's number and place.
-#[derive(Drop)]
+#[derive(Clone, Copy)]
 pub enum Filed {
     Good(usize),
     Refused(usize, usize),

@@ -1,10 +1,11 @@
 -- The checks behind the last line, as their loops and tests meet them.
---     outs_start, outs_on, outs_off, outs_end    the output wires, from the first on: what is left to look at
+--     outs_start, outs_on, outs_off, outs_end    the output wires, from the first on: what is left to look at;  written, unwritten: as the loop meets them
 --     owners_short, owners_bad, owners_sound     4
 --     given_4, given_2, given_none               4, then 2
 -- Assumes nothing.
 use mathlib.Core.Path.{◌≡◌, refl, sym, ap, ◌∙◌}
-use mathlib.Core.Bool.{Bool, true, false, not, cond, ◌&&◌}
+use Rattle.std.proofs.Common.{◌≢◌}
+use mathlib.Core.Bool.{Bool, true, false, not, ◌&&◌}
 use mathlib.Core.List.{List, [], ◌∷◌}
 use Prim.Native.Nat.{ℕ, ◌+◌, ◌-◌, ◌<◌, ◌≤◌}
 use native.Mathlib.Omega.{arith}
@@ -12,7 +13,7 @@ use lib.ListN.{length}
 use lib.Dec.{leb, eqb}
 use borrow.Author.Tests.{eq-eqb, ne_eqb}
 use Rattle.theory_sharing.specs.First.{first}
-use Rattle.theory_calls.specs.Checks.{refusal, one_to_three, limits_row, fault, Verdict, accepted, refuses, verdict}
+use Rattle.theory_calls.specs.Checks.{refusal, one_to_three, limits_row, fault, accepted, refuses, verdict}
 use Rattle.theory_calls.proofs.Refusals.{row_refuses, row_passes}
 use Rattle.theory_calls.proofs.RowLaws.{listed_short, listed_bad, listed_sound}
 use Rattle.theory_calls.proofs.Places.{Rising, refuse_at, place_verdict}
@@ -42,6 +43,13 @@ module _ (m : List ℕ) (I a n : ℕ) where
 
   pub outs_off : (o e : ℕ) → o < n → e ≡ entry_of m I (a + o) → e ≡ 0 → false ≡ from_out o
   outs_off o e h p z = sym (one o h ∙ rw (← p, eq-eqb e 0 z))
+
+  -- the same, as the loop meets them: no line names the test's own goal, so a wrong test falls at the promise itself
+  pub unwritten : (o e : ℕ) (r : Bool) → o < n → e ≡ entry_of m I (a + o) → e ≡ 0 → from_out o ≡ r → false ≡ r
+  unwritten o e r h p z q = outs_off o e h p z ∙ q
+
+  pub written : (o e : ℕ) (r : Bool) → o < n → e ≡ entry_of m I (a + o) → e ≢ 0 → from_out o ≡ r → from_out (o + 1) ≡ r
+  written o e r h p z q = outs_on o e h p z ∙ q
 
   pub outs_end : (o : ℕ) → n ≤ o → true ≡ from_out o
   unfolding all_entered

@@ -3,7 +3,7 @@
 --     bad_owner       4's test of an owner
 --     outs_entered    whether every output wire has an entry
 --     given_checks    4 and 2;  rest_verdict: all of them
-use Rattle.std.specs.Prelude.{Bool, not, cond, ◌&&◌, ◌||◌, List, [], ◌∷◌, ℕ, ◌-◌, get_or, eqb}
+use Rattle.std.specs.Prelude.{Bool, not, cond, ◌||◌, List, [], ◌∷◌, ℕ, ◌-◌, get_or, eqb}
 use Rattle.theory_calls.specs.Checks.{Refusal, refusal, one_to_three, limits_row, Verdict, accepted, refuses, verdict}
 use Rattle.bristol_text.specs.Heard.{count_up}
 use Rattle.bristol_text.specs.Call.{row_values}

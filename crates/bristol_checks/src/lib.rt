@@ -1,4 +1,6 @@
 // The checks of a text behind its last line: 15 and 17 with the number of lines, 4, then 2.
+#![tactic(auto)]
+
 ghost use Rattle.std.specs.Prelude.{◌≡◌, ◌≤◌, length};
 ghost use Rattle.theory_sharing.specs.First.{first};
 ghost use Rattle.theory_calls.specs.Checks.{fault, verdict};
@@ -8,13 +10,14 @@ ghost use Rattle.bristol_checks.specs.Mirror.{found, bad_owner, outs_entered, gi
 use bristol_wires::Text;
 
 // A refusal's number and place, 0 and 0 for none.
-#[derive(Drop)]
+#[derive(Clone, Copy)]
 pub struct Fault {
     pub number: usize,
     pub place: usize,
 }
 
 // "17 for an output wire never written": whether all are.
+#[tactic(auto, using(crate::proofs::EndLaws::unwritten, crate::proofs::EndLaws::written))]
 fn outputs_written(map: &[u16], t: Text) -> bool
     requires { t.outs ≤ t.wires }
     ensures { result ≡ outs_entered map.now t }

@@ -3,11 +3,11 @@
 --     outs_turn, outs_end        the outputs, from the first on: what is left to write
 --     header_put                 eight fields, one after the other
 -- Assumes nothing.
-use mathlib.Core.Path.{◌≡◌, refl, sym, ap, ◌∙◌}
-use mathlib.Core.List.{List, [], ◌∷◌, ◌++◌, map}
-use Prim.Native.Nat.{ℕ, zero, suc, ◌+◌, ◌*◌, ◌-◌, ◌<◌, ◌≤◌}
+use mathlib.Core.Path.{◌≡◌, sym, ap, ◌∙◌}
+use mathlib.Core.List.{List, ◌++◌, map}
+use Prim.Native.Nat.{ℕ, ◌+◌, ◌-◌, ◌<◌, ◌≤◌}
 use native.Mathlib.Omega.{arith}
-use lib.ListN.{length, get_or, take, drop, set, replicate, length-replicate, get_or-replicate}
+use lib.ListN.{length, take, set, replicate, length-replicate, get_or-replicate}
 use Rattle.theory_sharing.specs.Store.{fill}
 use Rattle.theory_calls.specs.File.{size, gates_start, outputs_start}
 use Rattle.theory_files.specs.Written.{two, four, header_bytes, output_bytes}

@@ -4,8 +4,8 @@
 -- Assumes nothing.
 use mathlib.Core.Path.{◌≡◌, refl, sym, ap, ap₂, ◌∙◌, subst}
 use mathlib.Core.Bool.{Bool, true, false, cond, true≢false}
-use mathlib.Core.List.{List, [], ◌∷◌, ◌++◌}
-use Prim.Native.Nat.{ℕ, zero, suc, ◌+◌, ◌-◌, ◌<◌, ◌≤◌}
+use mathlib.Core.List.{List, [], ◌∷◌}
+use Prim.Native.Nat.{ℕ, suc, ◌+◌, ◌-◌, ◌<◌, ◌≤◌}
 use native.Mathlib.Omega.{arith}
 use native.Mathlib.Numerals.{add-one}
 use lib.ListN.{length, get_or, drop, replicate, length-replicate, drop_of_length-le}
@@ -14,7 +14,7 @@ use Rattle.bristol_text.specs.Words.{is, none}
 use Rattle.bristol_text.specs.Lines.{Numbers, are, broken, with_number, numbers, total}
 use Rattle.bristol_text.specs.Renamed.{spread}
 use Rattle.bristol_words.specs.declared.Word.{Word}
-use Rattle.bristol_words.specs.Mirror.{words_at, word_in, told_number, Next}
+use Rattle.bristol_words.specs.Mirror.{words_at, told_number, Next}
 use Rattle.file_writer.specs.Mirror.{write}
 use Rattle.file_writer.proofs.WriteLaws.{write_write, write_none}
 use Rattle.bristol_file.specs.Mirror.{listed, widths_in, Widths}

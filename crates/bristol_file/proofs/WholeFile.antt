@@ -3,7 +3,7 @@
 --     file_put                   header, owners, gates and outputs are the file
 -- Assumes nothing.
 use mathlib.Core.Path.{◌≡◌, refl, sym, ap, ◌∙◌}
-use mathlib.Core.List.{List, [], ◌∷◌, ◌++◌}
+use mathlib.Core.List.{List, ◌∷◌}
 use Prim.Native.Nat.{ℕ, suc, ◌+◌, ◌*◌, ◌≤◌}
 use native.Mathlib.Omega.{arith}
 use lib.ListN.{length, take}
@@ -11,15 +11,15 @@ use lib.Seq.{length-take-le}
 use Rattle.theory_sharing.specs.Store.{fill}
 use Rattle.theory_calls.specs.File.{size}
 use Rattle.theory_files.specs.Written.{header_bytes, output_bytes}
-use Rattle.bristol_text.specs.Lines.{are, numbers, total}
+use Rattle.bristol_text.specs.Lines.{are, total}
 use Rattle.bristol_text.specs.Renamed.{spread}
 use Rattle.theory_files.proofs.ReadBack.{length_header}
 use Rattle.bristol_text.proofs.TextFile.{spread_length}
 use Rattle.bristol_words.specs.declared.Word.{Word}
-use Rattle.bristol_words.specs.Mirror.{words_at, Next}
+use Rattle.bristol_words.specs.Mirror.{Next}
 use Rattle.bristol_wires.specs.declared.Text.{Text}
 use Rattle.file_writer.specs.Mirror.{write}
-use Rattle.file_writer.proofs.WriteLaws.{write_write, Put, put_put, filled_put, put_filled}
+use Rattle.file_writer.proofs.WriteLaws.{Put, put_put, filled_put, put_filled}
 use Rattle.bristol_file.specs.Mirror.{listed, widths_in, Widths, behind_first, widths_of, Seated, outs_of, file_by}
 use Rattle.bristol_file.proofs.OwnerLaws.{width_next, widths_rest}
 

@@ -4,7 +4,7 @@
 --     Seated           that the inputs' line begins at a place: how many values there are, then their widths, with a sum of I
 --     outs_of          our numbers of the highest wires
 --     file_by          the file
-use Rattle.std.specs.Prelude.{◌≡◌, List, [], ◌∷◌, ◌++◌, map, ℕ, ◌+◌, ◌*◌, ◌-◌, length, take, drop}
+use Rattle.std.specs.Prelude.{◌≡◌, List, [], ◌∷◌, ◌++◌, map, ℕ, ◌*◌, ◌-◌, length, take}
 use Rattle.theory_files.specs.Written.{header_bytes, output_bytes}
 use Rattle.bristol_text.specs.Lines.{Numbers, are, broken, numbers, total}
 use Rattle.bristol_text.specs.Heard.{count_up}

@@ -1,4 +1,6 @@
 // The circuit file of a text that nothing is wrong with, written into the room: header, owners, gates, outputs.
+#![tactic(auto)]
+
 ghost use Rattle.std.specs.Prelude.{◌≡◌, map, ◌+◌, ◌*◌, ◌-◌, ◌≤◌, length, take, replicate};
 ghost use Rattle.theory_sharing.specs.Store.{fill};
 ghost use Rattle.theory_calls.specs.File.{size};

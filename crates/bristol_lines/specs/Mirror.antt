@@ -2,14 +2,14 @@
 --     LineFrom         a line read from a place on: what it says, and where it ends unless it is bad
 --     counts_from, widths_from, gate_from    behind a first word: the definition on the words that are left
 --     Summed, WiresRead    widths added up, wires read
-use Rattle.std.specs.Prelude.{◌≡◌, Bool, true, false, cond, ◌&&◌, List, [], ◌∷◌, ℕ, zero, suc, ◌+◌, ◌≤◌, length, leb, ltb, eqb}
+use Rattle.std.specs.Prelude.{◌≡◌, true, cond, ◌&&◌, List, [], ◌∷◌, ℕ, zero, suc, ◌+◌, ◌≤◌, length, leb, ltb, eqb}
 use Rattle.bristol_text.specs.Words.{Number, is, none, number}
 use Rattle.bristol_text.specs.Lines as text
 use Rattle.bristol_text.specs.Told.{told}
 use Rattle.bristol_words.specs.declared.Word.{Word}
 use Rattle.bristol_words.specs.Mirror.{words_at, line_end, told_number}
 use Rattle.bristol_text.specs.declared.Says.{Says}
-use Rattle.bristol_text.specs.declared.Says.TheVariants.{Blank, Bad, Counts, Widths, Other, Two, One}
+use Rattle.bristol_text.specs.declared.Says.TheVariants.{Bad, Other, Two, One}
 use Rattle.bristol_lines.specs.declared.Line.{Line}
 use Rattle.bristol_lines.specs.declared.Sum.{Sum}
 use Rattle.bristol_lines.specs.declared.Wires.{Wires}

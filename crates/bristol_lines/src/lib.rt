@@ -1,4 +1,6 @@
 // What a line of a text says, read from a place in it.
+#![tactic(auto)]
+
 ghost use Rattle.std.specs.Prelude.{◌≡◌, ◌+◌, ◌≤◌, length};
 ghost use Rattle.bristol_words.specs.Mirror.{words_at, line_end, Next};
 ghost use Rattle.bristol_lines.specs.Mirror.{LineAt, LineFrom, bad_line, gate_says, Summed, WiresRead, wires_from, counts_from, widths_from, gate_from};
@@ -7,7 +9,7 @@ use bristol_text::Says;
 use bristol_words::Word;
 
 // What a line says, and the place where it ends, before its LF; of a bad line any place.
-#[derive(Drop)]
+#[derive(Clone, Copy)]
 pub struct Line {
     pub says: Says,
     pub end: usize,
@@ -42,7 +44,7 @@ fn counts_line(text: &[u8], first: Word) -> Line
 }
 
 // Widths that were added up; where they are not good, sum and end are 0.
-#[derive(Drop)]
+#[derive(Clone, Copy)]
 pub struct Sum {
     pub good: bool,
     pub sum: u32,
@@ -104,7 +106,7 @@ fn widths_line(text: &[u8], first: Word, wires: u32) -> Line
 }
 
 // The last three wires of those that were read: all of a gate that reads two, and the last two all of one that reads one.
-#[derive(Drop)]
+#[derive(Clone, Copy)]
 pub struct Wires {
     pub good: bool,
     pub x: u32,

@@ -1,2 +1,3 @@
 pub mod LineLaws
 pub mod TurnLaws
+pub mod SeatLaws

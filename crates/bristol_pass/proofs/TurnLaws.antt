@@ -6,13 +6,13 @@
 -- Assumes nothing.
 use mathlib.Core.Path.{◌≡◌, refl, sym, ap, ◌∙◌}
 use mathlib.Core.Bool.{Bool, true, false, cond}
-use mathlib.Core.List.{List, [], ◌∷◌}
+use mathlib.Core.List.{List, ◌∷◌}
 use Prim.Native.Nat.{ℕ, ◌+◌, ◌<◌, ◌≤◌}
 use native.Mathlib.Omega.{arith}
 use lib.ListN.{length, drop, drop_of_length-le}
 use lib.Dec.{eqb}
 use borrow.Author.Tests.{eq-eqb, ne_eqb}
-use Rattle.bristol_text.specs.Words.{lines, words, split, but_empty_last}
+use Rattle.bristol_text.specs.Words.{lines, split, but_empty_last}
 use Rattle.bristol_text.specs.declared.Says.{Says}
 use Rattle.bristol_text.specs.declared.Says.TheVariants.{Bad}
 use Rattle.bristol_words.specs.Mirror.{rest_line, words_at, line_end}

@@ -1,4 +1,6 @@
 // One pass over the lines of a text: each is read once, judged, and entered in the map and in our gates; the pass ends at the first faulty line.
+#![tactic(auto)]
+
 ghost use Rattle.std.specs.Prelude.{◌≡◌, cond, ◌≤◌, length, eqb};
 ghost use Rattle.bristol_text.specs.Words.{lines};
 ghost use Rattle.bristol_words.specs.Mirror.{words_at};
@@ -9,7 +11,7 @@ ghost use Rattle.bristol_pass.specs.Mirror.{behind_of, told_pass};
 use bristol_wires::Text;
 
 // Where a pass ended: 0 or the fault of its last line, how many lines it read, what they said, and the place at which the inputs' line begins.
-#[derive(Drop)]
+#[derive(Clone, Copy)]
 pub struct Pass {
     pub fault: usize,
     pub line: usize,
@@ -26,6 +28,7 @@ fn behind(text: &[u8], end: usize) -> usize
 }
 
 // The inputs' line is the one behind the counts.
+#[tactic(auto, using(crate::proofs::SeatLaws::behind_the_counts, crate::proofs::SeatLaws::seat_kept))]
 fn seat_after(stage: u32, seat: usize, at: usize) -> usize
     ensures { result ≡ cond (eqb stage 1) at seat }
 {

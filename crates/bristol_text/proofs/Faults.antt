@@ -10,13 +10,12 @@ use Prim.Native.Nat.{ℕ, zero, suc, ◌<◌, ◌≤◌}
 use native.Mathlib.Omega.{arith}
 use lib.ListN.{length, get_or, take}
 use lib.Dec.{ltb, eqb}
-use borrow.Author.Tests.{eqb-true, eqb-false, eq-eqb, ne_eqb, not-true}
+use borrow.Author.Tests.{eqb-true, eqb-false, ne_eqb, not-true}
 use Rattle.theory_calls.specs.Checks.{Refusal, Holds, row_buffer}
 use Rattle.theory_calls.specs.Refusal.{check, FirstRefusal}
-use Rattle.theory_calls.specs.Call.{Call}
 use Rattle.bristol_text.specs.Words.{lines}
 use Rattle.bristol_text.specs.Lines.{Line, blank, bad, counts, widths, other_word, xor_gate, and_gate, inv_gate, eqw_gate}
-use Rattle.bristol_text.specs.Heard.{Heard, heard, says, written, two_fault, one_fault, within, line_fault}
+use Rattle.bristol_text.specs.Heard.{Heard, heard, says, written, line_fault}
 use Rattle.bristol_text.specs.Call.{fault_at, lines_check, text_checks, room_bytes, FromBristol}
 
 abbrev Numbered : ℕ → Type 0

@@ -6,13 +6,13 @@
 --     outs_many               how many those are
 --     told_file               the file is what stands in front in the room where the call answers good
 -- Assumes nothing.
-use mathlib.Core.Path.{◌≡◌, refl, sym, ap, ◌∙◌, subst}
+use mathlib.Core.Path.{◌≡◌, sym, ap, ◌∙◌, subst}
 use mathlib.Core.List.{List, [], ◌∷◌, map, flat_map}
 use Prim.Native.Nat.{ℕ, zero, suc, ◌+◌, ◌-◌, ◌<◌}
 use native.Mathlib.Omega.{arith}
 use lib.ListN.{length, get_or, take, drop, length-map}
 use Rattle.theory_calls.specs.File.{size, circuit, outputs_of}
-use Rattle.theory_calls.specs.Answer.{Answer, good}
+use Rattle.theory_calls.specs.Answer.{good}
 use Rattle.theory_calls.specs.Calls.{Call, GateAt, OwnerAt, OutputAt, Check, Plain, Run, does, Accepts, buffer}
 use Rattle.theory_calls.specs.Statements.{bit_family, Bits, Clean}
 use Rattle.theory_calls.proofs.FamilyLaws.{bit_lawful, bits_fit}

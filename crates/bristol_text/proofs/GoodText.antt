@@ -2,9 +2,9 @@
 --     passes_good, good_passes        all checks but 10 pass exactly if it is good;  accepted_good, good_accepted: by their verdict
 -- Assumes nothing.
 use mathlib.Core.Path.{◌≡◌, refl, sym, ◌∙◌}
-use mathlib.Core.Bool.{Bool, true, false, not, ◌&&◌, ◌||◌, true≢false}
+use mathlib.Core.Bool.{Bool, true, false, not, ◌&&◌, true≢false}
 use mathlib.Core.List.{List, [], ◌∷◌}
-use Prim.Native.Nat.{ℕ, suc, ◌<◌, ◌≤◌}
+use Prim.Native.Nat.{ℕ, suc, ◌<◌}
 use native.Mathlib.Omega.{arith}
 use lib.ListN.{length, get_or}
 use lib.Dec.{ltb, eqb}
@@ -14,10 +14,7 @@ use Rattle.theory_calls.proofs.Refusals.{Clears, Passes, accepted_passes, passes
 use Rattle.theory_files.specs.Written.{Within}
 use Rattle.theory_files.proofs.Opens.{Fail, places_clear}
 use Rattle.theory_calls.proofs.Limits.{or_first}
-use Rattle.bristol_text.specs.Lines.{total}
-use Rattle.bristol_text.specs.Heard.{heard, out_wires, all_written, complete}
-use Rattle.bristol_text.specs.Renamed.{renamed}
-use Rattle.bristol_text.specs.Call.{fault_at, row_values, text_checks}
+use Rattle.bristol_text.specs.Call.{row_values, text_checks}
 use Rattle.bristol_text.specs.Good.{Good}
 
 -- the one place of a row

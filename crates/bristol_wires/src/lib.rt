@@ -4,6 +4,8 @@
 // The map has one more than our number, and 0 where a wire is not written. An input has no entry: it keeps its number. Beyond our limits, where a
 // text is refused in the end, an entry only says that the wire is written, and no gate behind the 3,072nd is kept: so nothing here can grow too
 // large, and no function asks for a bound.
+#![tactic(auto)]
+
 ghost use Rattle.std.specs.Prelude.{◌≡◌, ◌+◌, ◌*◌, ◌-◌, ◌≤◌, length, set};
 ghost use Rattle.bristol_wires.specs.Mirror.{entry_of, ours_of, next_entry, two_fault_of, one_fault_of, fault_of, gate_put, kind_of_two, two_put, one_put, one_gate};
 ghost use Rattle.bristol_wires.specs.Mirror.{map_after, gates_after, one_more, made_by, after_counts, after_widths, after_gate, text_after, nothing_read};
@@ -12,7 +14,7 @@ use bristol_text::Says;
 
 // What the lines before have said. stage: how many header lines there were. left: how many gate lines are still to come. made: our gates so far,
 // 3,073 where there are more than 3,072.
-#[derive(Drop)]
+#[derive(Clone, Copy)]
 pub struct Text {
     pub stage: u32,
     pub wires: u32,

@@ -1,11 +1,13 @@
 // The words of a text, each by a place in it: where the next word of a line stands, which number it is, which gate word.
+#![tactic(auto)]
+
 ghost use Rattle.std.specs.Prelude.{◌≡◌, ◌+◌, ◌-◌, ◌≤◌, length, take, drop};
 ghost use Rattle.bristol_text.specs.Words.{is_gap};
 ghost use Rattle.bristol_text.specs.Lines.{three_letters, gate_word};
 ghost use Rattle.bristol_words.specs.Mirror.{lead, WordAt, Next, closed};
 
 // A word from start to end; where both are one place, there is none. good says that it is a number, and value which.
-#[derive(Drop)]
+#[derive(Clone, Copy)]
 pub struct Word {
     pub start: usize,
     pub end: usize,

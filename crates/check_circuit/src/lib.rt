@@ -1,4 +1,6 @@
 // Checks 4 to 6: one test each, the first fault by index, one loop each; the whole circuit's check, and the answer of the calls behind it.
+#![tactic(auto)]
+
 ghost use Rattle.std.specs.Prelude.{◌≡◌, ◌+◌, ◌<◌};
 ghost use Rattle.theory_sharing.specs.First.{first};
 ghost use Rattle.theory_calls.specs.Calls.{Check, answers, does};
@@ -12,7 +14,7 @@ use file_header::{Counts, Header};
 use file_parts::{Gate, Output, Owner};
 
 // What a call answers that only fills its buffers: good; a refusal's number and place.
-#[derive(Drop)]
+#[derive(Clone, Copy)]
 pub enum Done {
     Good,
     Refused(usize, usize),

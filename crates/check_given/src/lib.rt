@@ -1,4 +1,6 @@
 // Checks 7 to 10 on an opened circuit: 7 and 8 are what run, view, re-taping and listing are all given, 9 and 10 the run's own.
+#![tactic(auto)]
+
 ghost use Rattle.std.specs.Prelude.{◌≡◌, ◌≤◌};
 ghost use Rattle.theory_sharing.specs.Circuit.{ands};
 ghost use Rattle.theory_calls.specs.File.{circuit};
@@ -9,7 +11,7 @@ ghost use Rattle.check_given.specs.Mirror.{slices_checks, run_checks, found};
 use file_header::Counts;
 
 // A refusal's number and place, 0 and 0 for none.
-#[derive(Drop)]
+#[derive(Clone, Copy)]
 pub struct Fault {
     pub number: usize,
     pub place: usize,

@@ -1,8 +1,11 @@
 // Check 2: I, G and O against their limits, before any sum is formed.
+#![tactic(auto)]
+
 ghost use Rattle.std.specs.Prelude.{◌≡◌, ℕ, ◌≤◌};
 ghost use Rattle.check_limits.specs.Mirror.{large_place, Within};
 
 // The first of I, G and O that is too large, by its place; 3 where none is.
+#[tactic(auto, using(crate::proofs::Limits::limit_laws))]
 pub fn too_large(i: u32, g: u32, o: u32) -> usize
     ensures { (result ≡ large_place i g o) × Within result i g o }
 {

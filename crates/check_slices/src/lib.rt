@@ -1,4 +1,6 @@
 // Checks 7 to 10, 12 and 14: the first fault of a slice of bits, of the buffers' lengths, of a job's header.
+#![tactic(auto)]
+
 ghost use Rattle.std.specs.Prelude.{◌≡◌, ◌+◌, ◌<◌, ◌≤◌, length};
 ghost use Rattle.theory_sharing.specs.First.{first};
 ghost use Rattle.theory_calls.specs.Checks.{fault};

@@ -1,5 +1,7 @@
 // One test each, on numbers and bytes: what refusals 5, 10, 11 and 14 and "a byte above 1" ask of a gate's numbers, a size, a site, a job header or a byte;
 // and what is counted of one gate.
+#![tactic(auto)]
+
 ghost use Rattle.std.specs.Prelude.{◌≡◌, cond, ◌<◌, ◌≤◌, length, eqb};
 ghost use Rattle.theory_calls.specs.Checks.{one_to_three};
 ghost use Rattle.check_tests.specs.Mirror.{bad_kind, above, wrong_size, job_place, deals, site_no};
@@ -46,6 +48,7 @@ pub fn site_good(site: usize) -> bool
 }
 
 // 14 on the job's length and its four numbers: the place, or 13 where the header is good. Offsets are compared and never added to.
+#[tactic(auto, using(crate::proofs::JobLaws::job_laws))]
 pub fn judge_job(n: usize, a: u32, b: u32, c: u32, d: u32) -> usize
     ensures { result ≡ job_place n a b c d }
 {

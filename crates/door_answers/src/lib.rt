@@ -1,5 +1,7 @@
 // Answers as C gets them: structs of numbers. 0 is good, 100 an abort with its output and its sites, and every other number is a refusal's, with its
 // place.
+#![tactic(auto)]
+
 ghost use Rattle.std.specs.Prelude.{◌≡◌, [], ◌≤◌};
 ghost use Rattle.theory_calls.specs.Answer.{good, abort, refused};
 ghost use Rattle.file_header.specs.Answers.{header_answer};
@@ -13,7 +15,7 @@ use file_parts::{Gate, Output, Owner};
 
 // The answer of plain values, run, view and re-taping: number and place; for an abort (100) place is the output, and sites the objecting ones.
 #[repr(C)]
-#[derive(Drop)]
+#[derive(Clone, Copy)]
 pub struct Answer {
     pub number: usize,
     pub place: usize,
@@ -22,7 +24,7 @@ pub struct Answer {
 
 // The answer of open and check.
 #[repr(C)]
-#[derive(Drop)]
+#[derive(Clone, Copy)]
 pub struct CountsAnswer {
     pub number: usize,
     pub place: usize,
@@ -33,7 +35,7 @@ pub struct CountsAnswer {
 
 // The answers to the reader's three questions.
 #[repr(C)]
-#[derive(Drop)]
+#[derive(Clone, Copy)]
 pub struct GateAnswer {
     pub number: usize,
     pub place: usize,
@@ -43,7 +45,7 @@ pub struct GateAnswer {
 }
 
 #[repr(C)]
-#[derive(Drop)]
+#[derive(Clone, Copy)]
 pub struct OwnerAnswer {
     pub number: usize,
     pub place: usize,
@@ -51,7 +53,7 @@ pub struct OwnerAnswer {
 }
 
 #[repr(C)]
-#[derive(Drop)]
+#[derive(Clone, Copy)]
 pub struct OutputAnswer {
     pub number: usize,
     pub place: usize,
@@ -60,7 +62,7 @@ pub struct OutputAnswer {
 
 // The traffic table, three senders by three receivers, row after row.
 #[repr(C)]
-#[derive(Drop)]
+#[derive(Clone, Copy)]
 pub struct TrafficAnswer {
     pub number: usize,
     pub place: usize,
@@ -69,7 +71,7 @@ pub struct TrafficAnswer {
 
 // How many bytes of the lent buffer are text.
 #[repr(C)]
-#[derive(Drop)]
+#[derive(Clone, Copy)]
 pub struct ListingAnswer {
     pub number: usize,
     pub place: usize,
@@ -78,7 +80,7 @@ pub struct ListingAnswer {
 
 // How many bytes of the lent room are the file.
 #[repr(C)]
-#[derive(Drop)]
+#[derive(Clone, Copy)]
 pub struct FileAnswer {
     pub number: usize,
     pub place: usize,
@@ -87,7 +89,7 @@ pub struct FileAnswer {
 
 // The lengths of all slices and buffers that go with a circuit; the view's by site.
 #[repr(C)]
-#[derive(Drop)]
+#[derive(Clone, Copy)]
 pub struct SizesAnswer {
     pub number: usize,
     pub place: usize,

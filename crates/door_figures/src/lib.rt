@@ -1,4 +1,6 @@
 // What is told of a circuit and a job for C: lengths, traffic, the listing's text. The door hands each on.
+#![tactic(auto)]
+
 ghost use Rattle.std.specs.Prelude.{◌≡◌, [], ◌∷◌};
 ghost use Rattle.theory_calls.specs.Calls.{Check, Traffic, Listing, does};
 ghost use Rattle.door_answers.specs.Told.{told_traffic, TellsText};

@@ -1,4 +1,6 @@
 // What the questions to a circuit file answer for C: opened, by number, checked. The door hands each on.
+#![tactic(auto)]
+
 ghost use Rattle.std.specs.Prelude.{◌≡◌};
 ghost use Rattle.theory_calls.specs.Calls.{Open, GateAt, OwnerAt, OutputAt, Check, does};
 ghost use Rattle.door_answers.specs.Told.{told_counts, told_gate, told_owner, told_output};

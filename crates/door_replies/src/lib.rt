@@ -1,4 +1,6 @@
 // What the calls answer, as the structs that C gets: their enums, the lengths for a circuit, the listing's text.
+#![tactic(auto)]
+
 ghost use Rattle.std.specs.Prelude.{◌≡◌};
 ghost use Rattle.theory_calls.specs.File.{circuit};
 ghost use Rattle.file_parts.specs.Checked.{Checked};

@@ -1,4 +1,6 @@
 // What plain values, run, view and re-taping answer for C, with the lent buffers. The door hands each on.
+#![tactic(auto)]
+
 ghost use Rattle.std.specs.Prelude.{[], ◌∷◌};
 ghost use Rattle.theory_calls.specs.Calls.{Plain, Run, View, Retape};
 ghost use Rattle.door_answers.specs.Told.{Tells};

@@ -1,4 +1,6 @@
 // What a call on a text answers for C. The door hands it on.
+#![tactic(auto)]
+
 ghost use Rattle.std.specs.Prelude.{◌≡◌, [], ◌∷◌};
 ghost use Rattle.bristol_text.specs.Call.{FromBristol};
 ghost use Rattle.bristol.specs.Answers.{filed_answer};

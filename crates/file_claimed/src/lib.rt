@@ -1,4 +1,6 @@
 // A reader that anybody made: the counts beside its file are only claimed, so it is its file that is asked.
+#![tactic(auto)]
+
 ghost use Rattle.std.specs.Prelude.{◌≡◌};
 ghost use Rattle.theory_calls.specs.Calls.{GateAt, OwnerAt, OutputAt, answers, does};
 ghost use Rattle.file_parts.specs.Answers.{gate_answer, owner_answer, output_answer};

@@ -1,4 +1,6 @@
 // What is counted in a circuit: A, the AND and OR gates, and Is, the inputs of a site.
+#![tactic(auto)]
+
 ghost use Rattle.std.specs.Prelude.{◌≡◌, cond, ◌+◌, ◌<◌, ◌≤◌};
 ghost use Rattle.theory_sharing.specs.Sites.{is};
 ghost use Rattle.theory_sharing.specs.Circuit.{dealing, ands, owned};

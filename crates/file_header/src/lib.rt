@@ -1,4 +1,6 @@
 // The circuit file's header, read from the caller's slice: checks 1 to 3.
+#![tactic(auto)]
+
 ghost use Rattle.std.specs.Prelude.{◌≡◌, ◌+◌, ◌*◌, ◌<◌, ◌≤◌};
 ghost use Rattle.theory_calls.specs.Calls.{Open, answers, does};
 ghost use Rattle.file_header.specs.Answers.{header_answer};
@@ -6,7 +8,7 @@ ghost use Rattle.file_header.specs.Mirror.{fields_judged, judged, header_of, Fin
 ghost use Rattle.file_header.specs.Opened.{IsOpened};
 
 // The counts of a file whose header is good.
-#[derive(Drop)]
+#[derive(Clone, Copy)]
 pub struct Counts {
     pub inputs: usize,
     pub gates: usize,
@@ -14,7 +16,7 @@ pub struct Counts {
 }
 
 // The header's answer: the counts, or the refusal's number and place.
-#[derive(Drop)]
+#[derive(Clone, Copy)]
 pub enum Header {
     Good(Counts),
     Refused(usize, usize),

@@ -1,4 +1,6 @@
 // Numbers in a slice, the lowest byte first, as a circuit file and a job have them; a copy of a slice.
+#![tactic(auto)]
+
 ghost use Rattle.std.specs.Prelude.{◌≡◌, ◌+◌, ◌*◌, ◌<◌, ◌≤◌, length, take};
 ghost use Rattle.theory_sharing.specs.Store.{fill};
 ghost use Rattle.theory_calls.specs.File.{le16, le32};

@@ -1,4 +1,6 @@
 // Under the reader: gate, owner and output by number, on the caller's slice and counts, with no second copy.
+#![tactic(auto)]
+
 ghost use Rattle.std.specs.Prelude.{◌≡◌, ◌+◌, ◌*◌, ◌<◌};
 ghost use Rattle.file_header.specs.Opened.{Opened};
 ghost use Rattle.file_parts.specs.Mirror.{gate_by, owner_by, output_by, gate_refusal, owner_refusal, output_refusal};
@@ -6,21 +8,21 @@ ghost use Rattle.file_parts.specs.Mirror.{gate_by, owner_by, output_by, gate_ref
 use file_header::Header;
 
 // A gate's three numbers as they are stored: kind, first, second.
-#[derive(Drop)]
+#[derive(Clone, Copy)]
 pub enum Gate {
     Is(u16, u16, u16),
     Refused(usize, usize),
 }
 
 // An input's owner as it is stored.
-#[derive(Drop)]
+#[derive(Clone, Copy)]
 pub enum Owner {
     Is(u8),
     Refused(usize, usize),
 }
 
 // An output's wire as it is stored.
-#[derive(Drop)]
+#[derive(Clone, Copy)]
 pub enum Output {
     Is(u16),
     Refused(usize, usize),

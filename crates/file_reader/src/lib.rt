@@ -1,5 +1,7 @@
 // The reader: a small struct over the caller's file with its counts, so that a gate, an owner or an output is had by its number with no
 // second copy. Functions that take or make a Reader are thin: the work is done on the slice, in `circuit`.
+#![tactic(auto)]
+
 ghost use Rattle.std.specs.Prelude.{◌≡◌};
 ghost use Rattle.theory_calls.specs.Calls.{GateAt, OwnerAt, OutputAt, answers, does};
 ghost use Rattle.file_header.specs.Opened.{Opened};
@@ -10,7 +12,7 @@ use file_header::{Counts, Header};
 use file_parts::{Gate, Output, Owner};
 
 // The caller's file, and the counts of its header. Anybody can make one, so no function that a caller outside can reach trusts the counts.
-#[derive(Drop)]
+#[derive(Clone, Copy)]
 pub struct Reader<'a> {
     pub file: &'a [u8],
     pub inputs: usize,

@@ -1,5 +1,7 @@
 // Bytes and numbers written into a lent buffer: each writer is told the place where it starts and answers the place after what it wrote, so
 // that the next goes on there.
+#![tactic(auto)]
+
 ghost use Rattle.std.specs.Prelude.{◌≡◌, ◌+◌, ◌≤◌, length};
 ghost use Rattle.theory_files.specs.Written.{two, four};
 ghost use Rattle.file_writer.specs.Mirror.{write};

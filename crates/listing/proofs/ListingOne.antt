@@ -4,7 +4,7 @@ use mathlib.Core.Path.{◌≡◌, sym, ap, ◌∙◌}
 use mathlib.Core.List.{List, [], ◌∷◌}
 use Prim.Native.Nat.{ℕ}
 use lib.ListN.{get_or}
-use Rattle.theory_calls.specs.Answer.{Answer, good, After}
+use Rattle.theory_calls.specs.Answer.{After}
 use Rattle.theory_calls.specs.Calls.{Listing, does}
 use Rattle.file_header.proofs.OpenLaws.{good_is_not_refused}
 use Rattle.listing.specs.declared.Listed.{Listed}

@@ -1,5 +1,7 @@
 // The listing: from a job's bytes to its text, in a lent buffer. The rooms of its run are of fixed size, what the largest circuit needs: 42,496
 // bytes of line and as many of transcript, 24,576 of store and 768 of outputs.
+#![tactic(auto)]
+
 ghost use Rattle.std.specs.Prelude.{◌≡◌, ◌+◌, ◌*◌, ◌-◌, ◌≤◌, length, take, drop};
 ghost use Rattle.theory_sharing.specs.Run.{outputs};
 ghost use Rattle.theory_calls.specs.Statements.{Clean};
@@ -12,7 +14,7 @@ ghost use Rattle.listing.specs.Mirror.{Fit, says_good, listed_header, says};
 use file_header::{Counts, Header};
 
 // How many bytes of the buffer are text; or a refusal's number and place.
-#[derive(Drop)]
+#[derive(Clone, Copy)]
 pub enum Listed {
     Good(usize),
     Refused(usize, usize),

@@ -1,7 +1,11 @@
 // The listing program: a job from standard input, its text to standard output.
-use libc::STDIN_FILENO;
+#![tactic(auto)]
+
 use listing::Listed;
 use trials_stream::print;
+
+// The number of standard input.
+const STDIN_FILENO: i32 = 0;
 
 // What is printed, in front in the room: the text of a good job, which is there, or a refusal's line. How long it is.
 fn printed(listed: Listed, room: &mut [u8; 2624]) -> usize {

@@ -3,7 +3,7 @@
 --     counts_of, head_of      the three counts; the first two lines
 --     lines_of                theory_calls' good-text, by its numbers (proofs/TextLaws: good-lines)
 --     shown_of, OneDigit      the bit shown for an output; that each takes one digit
-use Rattle.std.specs.Prelude.{List, ◌++◌, ℕ, ◌+◌, ◌*◌, ◌≤◌, ◌<◌, get_or}
+use Rattle.std.specs.Prelude.{List, ◌++◌, ℕ, ◌*◌, ◌≤◌, ◌<◌, get_or}
 use Rattle.theory_calls.specs.Listing.{decimal, word_inputs, word_gates, word_outputs, word_bits, word_end, space, LF, out_lines}
 
 -- "refused 5 0", "out 0 1"

@@ -1,4 +1,6 @@
 // The listing's text, written into a lent buffer from the front, as file_writer writes.
+#![tactic(auto)]
+
 ghost use Rattle.std.specs.Prelude.{◌≡◌, ℕ, ◌+◌, ◌*◌, ◌<◌, ◌≤◌, ◌++◌, length};
 ghost use Rattle.theory_sharing.specs.Store.{fill};
 ghost use Rattle.theory_calls.specs.Listing.{decimal, word_out, out_lines, refused_text};

@@ -1,4 +1,6 @@
 // Plain values: the Boolean value of every wire, with no sharing. One pass over the inputs, one over the gates.
+#![tactic(auto)]
+
 ghost use Rattle.std.specs.Prelude.{◌≡◌, [], ◌∷◌, ◌+◌, ◌<◌, ◌≤◌, length, get_or, set};
 ghost use Rattle.theory_calls.specs.File.{circuit};
 ghost use Rattle.theory_calls.specs.Plain.{bit, byte, plain};

@@ -1,4 +1,6 @@
 // Re-taping: the tapes that explain one site's view by other inputs.
+#![tactic(auto)]
+
 ghost use Rattle.std.specs.Prelude.{◌≡◌, [], ◌∷◌, ◌≤◌, length};
 ghost use Rattle.theory_sharing.specs.Circuit.{ands};
 ghost use Rattle.theory_calls.specs.File.{circuit};

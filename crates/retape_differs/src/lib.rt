@@ -1,4 +1,6 @@
 // 13, in its two halves: the first own input that differs, the first opened bit that differs.
+#![tactic(auto)]
+
 ghost use Rattle.std.specs.Prelude.{◌≡◌, ◌+◌, ◌*◌, ◌<◌, length, take};
 ghost use Rattle.theory_sharing.specs.First.{first};
 ghost use Rattle.theory_calls.specs.File.{circuit, site_of};

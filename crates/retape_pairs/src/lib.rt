@@ -1,5 +1,7 @@
 // One site's pair of a wire, from its own bytes alone: its pairs of earlier wires and the plain values; and the next site's draws anew.
 // The work room holds plain values under the first inputs, then under the second, then the site's pairs: 4W bytes.
+#![tactic(auto)]
+
 ghost use Rattle.std.specs.Prelude.{◌≡◌, ◌+◌, ◌*◌, ◌<◌, ◌≤◌, length};
 ghost use Rattle.theory_sharing.specs.Ops.{bits};
 ghost use Rattle.theory_sharing.specs.Circuit.{dealing};
@@ -18,7 +20,7 @@ use file_parts::Gate;
 use run_messages::Two;
 
 // The running places on three tapes, as a site sees them: its own, the next site's, the one's before.
-#[derive(Drop)]
+#[derive(Clone, Copy)]
 pub struct Places {
     pub own: usize,
     pub next: usize,
@@ -26,7 +28,7 @@ pub struct Places {
 }
 
 // What an AND or OR gives: the site's new pair, and the next site's two draws, the first moved.
-#[derive(Drop)]
+#[derive(Clone, Copy)]
 pub struct Mixed {
     pub pair: Two,
     pub first: u8,

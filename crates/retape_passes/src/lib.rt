@@ -1,4 +1,6 @@
 // A site's pairs of all wires and the next site's tape anew: one pass over the inputs, one over the gates.
+#![tactic(auto)]
+
 ghost use Rattle.std.specs.Prelude.{◌≡◌, ◌+◌, ◌*◌, ◌<◌, length, get_or, take, drop};
 ghost use Rattle.theory_sharing.specs.Sites.{is, next as after_it};
 ghost use Rattle.theory_sharing.specs.Circuit.{ands};

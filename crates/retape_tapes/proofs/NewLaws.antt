@@ -9,9 +9,9 @@
 use mathlib.Core.Path.{◌≡◌, refl, sym, ap, ap₂, ◌∙◌, subst}
 use mathlib.Core.Bool.{Bool, false, cond}
 use mathlib.Core.List.{List, [], ◌∷◌, ◌++◌, append_assoc, append-nil}
-use Prim.Native.Nat.{ℕ, zero, suc, ◌+◌, ◌*◌, ◌-◌, ◌≤◌, ◌<◌}
+use Prim.Native.Nat.{ℕ, zero, suc, ◌+◌, ◌*◌, ◌-◌, ◌≤◌}
 use native.Mathlib.Omega.{arith}
-use lib.ListN.{length, get_or, take, drop, length-append}
+use lib.ListN.{length, take, drop, length-append}
 use Rattle.theory_sharing.specs.Ops.{bits}
 use Rattle.theory_sharing.specs.Sites.{Site, s1, s2, s3, next, prev, Trio, of, is, if_own}
 use Rattle.theory_sharing.specs.Circuit.{Circuit, Draws, no_errors, ands, all_ands, owned, all_owned}
@@ -19,14 +19,14 @@ use Rattle.theory_sharing.specs.Order.{if_deals}
 use Rattle.theory_sharing.specs.Published.{parts}
 use Rattle.theory_sharing.specs.Steps.{Wire}
 use Rattle.theory_sharing.specs.Run.{after}
-use Rattle.theory_sharing.specs.Tapes.{tape_length, tapes_sum, cut, join, draws, read, ins_tape, tape, written}
+use Rattle.theory_sharing.specs.Tapes.{tape_length, tapes_sum, cut, draws, read, ins_tape, tape, written}
 use Rattle.theory_sharing.specs.Retape.{mine, shift, retape, new_tapes}
 use Rattle.theory_sharing.specs.Store.{side}
 use Rattle.theory_sharing.proofs.BitLaws.{bit_group}
 use Rattle.theory_sharing.proofs.Clean.{held}
 use Rattle.theory_sharing.proofs.SiteLaws.{Seen, itself, behind, before, seen, by_site, own_behind, own_before}
 use Rattle.theory_sharing.proofs.StoreLaws.{side_held}
-use Rattle.theory_sharing.proofs.TapeLaws.{Sized, tapes_length, cut_sized, join_cut, read_tape}
+use Rattle.theory_sharing.proofs.TapeLaws.{tapes_length, cut_sized, join_cut, read_tape}
 use Rattle.theory_calls.specs.File.{site_of, circuit}
 use Rattle.theory_calls.specs.Checks.{tapes_want}
 use Rattle.theory_calls.specs.Calls.{at_wire, work_room_of}

@@ -1,4 +1,6 @@
 // The new tapes and the work room of a checked re-taping: both sets of plain values; a copy of the tapes, in which the next site's is anew.
+#![tactic(auto)]
+
 ghost use Rattle.std.specs.Prelude.{◌≡◌, ◌+◌, ◌*◌, ◌≤◌, length, take};
 ghost use Rattle.theory_sharing.specs.Sites.{next, prev};
 ghost use Rattle.theory_sharing.specs.Circuit.{ands};
@@ -13,7 +15,7 @@ ghost use Rattle.retape_tapes.specs.Mirror.{span_of, span_in};
 use file_header::Counts;
 
 // A part of a slice.
-#[derive(Drop)]
+#[derive(Clone, Copy)]
 pub struct Span {
     pub from: usize,
     pub to: usize,

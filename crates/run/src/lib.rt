@@ -1,4 +1,6 @@
 // The run: every check, then inputs and gates in one pass, openings judged, outputs handed over.
+#![tactic(auto)]
+
 ghost use Rattle.std.specs.Prelude.{◌≡◌, ◌+◌, ◌*◌, ◌<◌, ◌≤◌, length};
 ghost use Rattle.theory_sharing.specs.Circuit.{ands, all_ands};
 ghost use Rattle.theory_sharing.specs.Store.{fill};
@@ -14,7 +16,7 @@ use file_header::{Counts, Header};
 use run_passes::Pos;
 
 // Good; an abort's output and the sum of its objecting sites; a refusal's number and place.
-#[derive(Drop)]
+#[derive(Clone, Copy)]
 pub enum Ran {
     Good,
     Abort(usize, usize),

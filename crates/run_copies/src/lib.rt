@@ -1,4 +1,6 @@
 // An opening, by value: the two copies that each site gets are compared, and what it opens.
+#![tactic(auto)]
+
 ghost use Rattle.std.specs.Prelude.{◌≡◌, ◌≤◌};
 ghost use Rattle.theory_sharing.specs.Ops.{bits};
 ghost use Rattle.theory_sharing.specs.Steps.{unlike};
@@ -7,6 +9,7 @@ ghost use Rattle.run_messages.specs.Mirror.{objects_of, opened_of};
 use run_messages::{Held, Three};
 
 // A site's weight where its two copies are unlike.
+#[tactic(auto, using(crate::proofs::CopyLaws::copies_alike, crate::proofs::CopyLaws::copies_differ))]
 pub fn unlike(x: u8, y: u8, weight: usize) -> usize
     ensures { (result ≡ unlike (x, y) weight) × (result ≤ weight) }
 {

@@ -1,17 +1,19 @@
 // The bits of a step, by value: what is dealt, sent and delivered. What is compared and opened: run_copies.
+#![tactic(auto)]
+
 ghost use Rattle.std.specs.Prelude.{◌≡◌, ◌+◌, ◌≤◌, length};
 ghost use Rattle.theory_sharing.specs.Ops.{bits};
 ghost use Rattle.run_messages.specs.Mirror.{deal_at, line_at, on_line, in_pairs, on_line_six};
 
 // A site's pair of a wire.
-#[derive(Drop)]
+#[derive(Clone, Copy)]
 pub struct Two {
     pub x: u8,
     pub y: u8,
 }
 
 // The three sites' pairs of a wire. At an opening they are the six bits sent, in their order: 1 to 2, 1 to 3, 2 to 3, 2 to 1, 3 to 1, 3 to 2.
-#[derive(Drop)]
+#[derive(Clone, Copy)]
 pub struct Held {
     pub p1: Two,
     pub p2: Two,
@@ -19,7 +21,7 @@ pub struct Held {
 }
 
 // The four bits of a deal: a, b to the next site, c, d to the one after. As sent, d and a are what the dealer keeps.
-#[derive(Drop)]
+#[derive(Clone, Copy)]
 pub struct Four {
     pub a: u8,
     pub b: u8,
@@ -28,7 +30,7 @@ pub struct Four {
 }
 
 // The twelve bits of an AND or OR, by sender.
-#[derive(Drop)]
+#[derive(Clone, Copy)]
 pub struct Twelve {
     pub s1: Four,
     pub s2: Four,
@@ -36,7 +38,7 @@ pub struct Twelve {
 }
 
 // What the three sites open.
-#[derive(Drop)]
+#[derive(Clone, Copy)]
 pub struct Three {
     pub a: u8,
     pub b: u8,

@@ -1,4 +1,6 @@
 // Openings: judged in the first pass, which stops at the first output with unlike copies; handed over in the second.
+#![tactic(auto)]
+
 ghost use Rattle.std.specs.Prelude.{◌≡◌, not, cond, ℕ, suc, ◌+◌, ◌*◌, ◌<◌, ◌≤◌, min, length, eqb, ltb};
 ghost use Rattle.theory_sharing.specs.First.{first};
 ghost use Rattle.theory_calls.specs.File.{circuit};
@@ -11,7 +13,7 @@ use file_parts::Output;
 use run_messages::{Held, Three, Two};
 
 // Where the run stops: the first output at which a site objects, with the sites that do; the number of outputs and 0 where none does.
-#[derive(Drop)]
+#[derive(Clone, Copy)]
 pub struct Stop {
     pub output: usize,
     pub sites: usize,

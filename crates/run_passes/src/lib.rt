@@ -1,4 +1,6 @@
 // The passes of a run over inputs and gates.
+#![tactic(auto)]
+
 ghost use Rattle.std.specs.Prelude.{◌≡◌, ◌+◌, ◌*◌, ◌<◌, ◌≤◌, length, get_or};
 ghost use Rattle.theory_sharing.specs.Circuit.{dealing, ands};
 ghost use Rattle.theory_calls.specs.File.{circuit, gate_of, owner_at};
@@ -9,7 +11,7 @@ use file_header::Counts;
 use file_parts::{Gate, Owner};
 
 // The running places: on the three tapes, and on the line and the transcript.
-#[derive(Drop)]
+#[derive(Clone, Copy)]
 pub struct Pos {
     pub t1: usize,
     pub t2: usize,

@@ -1,4 +1,6 @@
 // What one site does at a step of document 01, on its own part of the store.
+#![tactic(auto)]
+
 ghost use Rattle.std.specs.Prelude.{◌≡◌, ◌+◌, ◌*◌, ◌<◌, ◌≤◌, length};
 ghost use Rattle.theory_sharing.specs.Ops.{bits};
 ghost use Rattle.run_site.specs.Mirror.{put_at, add_at, flip_at, local_at, take_at, two_at};

@@ -1,4 +1,6 @@
 // Where a run and a view begin.
+#![tactic(auto)]
+
 ghost use Rattle.std.specs.Prelude.{◌≡◌, ◌+◌, ◌*◌, ◌≤◌};
 ghost use Rattle.theory_sharing.specs.Circuit.{ands};
 ghost use Rattle.theory_calls.specs.File.{circuit};

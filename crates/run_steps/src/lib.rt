@@ -1,4 +1,6 @@
 // The steps of document 01 at the three sites: bits by value between them, each site on its own part of the store.
+#![tactic(auto)]
+
 ghost use Rattle.std.specs.Prelude.{◌≡◌, ℕ, ◌+◌, ◌*◌, ◌<◌, ◌≤◌, length};
 ghost use Rattle.theory_sharing.specs.Ops.{bits};
 ghost use Rattle.run_site.specs.Mirror.{put_at, add_at, flip_at, local_at, take_at, two_at};

@@ -26,7 +26,6 @@ use Rattle.theory_sharing.proofs.RunLaws as RL
 use Rattle.theory_sharing.proofs.OrderLaws.{routes_length}
 use Rattle.theory_sharing.proofs.SenderLaws.{delivered_is_sent}
 use Rattle.theory_sharing.proofs.StoreLaws.{fill_rest, fill_read, store_at, fill_all}
-use Rattle.theory_sharing.proofs.RetapeLaws as L
 use Rattle.theory_calls.specs.Answer.{good, abort}
 use Rattle.theory_calls.specs.Checks.{tapes_want, line_want}
 use Rattle.theory_calls.specs.Calls.{Call, CheckOf, RunOf, does, Accepts, buffer, at_wire}

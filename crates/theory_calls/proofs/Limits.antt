@@ -12,9 +12,9 @@ use lib.ListN.{length}
 use lib.Dec.{eqb}
 use borrow.Author.Tests.{leb-true, eqb-true, not-false}
 use Rattle.theory_sharing.specs.Circuit.{Gate, XOR, AND, OR, NOT, dealing, ands}
-use Rattle.theory_calls.specs.File.{le32, inputs_of, gates_of, outputs_of, size, circuit}
+use Rattle.theory_calls.specs.File.{le32, inputs_of, gates_of, outputs_of, size}
 use Rattle.theory_calls.specs.Family.{Family, circuit_with}
-use Rattle.theory_calls.specs.Checks.{tested, row_large, row_field, tapes_want, line_want}
+use Rattle.theory_calls.specs.Checks.{tested, row_large, row_field, line_want}
 use Rattle.theory_calls.proofs.Refusals.{Clears}
 
 pub or_first : (a b : Bool) → (a || b) ≡ false → a ≡ false

@@ -2,22 +2,21 @@
 --     shown_small        what it shows of an output is one digit
 --     listing_short      its text fits into its buffer
 -- Assumes nothing.
-use mathlib.Core.Path.{◌≡◌, sym, ap, ◌∙◌, subst}
+use mathlib.Core.Path.{ap}
 use mathlib.Core.Bool.{Bool, true, false}
 use mathlib.Core.List.{List, [], ◌∷◌, map}
-use Prim.Native.Nat.{ℕ, zero, suc, ◌+◌, ◌*◌, ◌<◌, ◌≤◌}
+use Prim.Native.Nat.{ℕ, zero, suc, ◌<◌, ◌≤◌}
 use native.Mathlib.Omega.{arith}
 use lib.ListN.{length, get_or}
 use Rattle.theory_sharing.specs.Ops.{bits}
 use Rattle.theory_sharing.specs.Sites.{Trio}
-use Rattle.theory_sharing.specs.Circuit.{Circuit, no_errors, all_ands}
+use Rattle.theory_sharing.specs.Circuit.{Circuit, no_errors}
 use Rattle.theory_sharing.specs.Run.{opened_at}
 use Rattle.theory_sharing.specs.Tapes.{read}
-use Rattle.theory_sharing.specs.Traffic.{table_total}
 use Rattle.theory_sharing.proofs.TrafficLaws.{table_total_is}
 use Rattle.theory_calls.specs.File.{gates_of, circuit}
 use Rattle.theory_calls.specs.Plain.{byte, plain, plain_values, plain_out}
-use Rattle.theory_calls.specs.Calls.{Listing, Accepts, at_wire, job_file, job_inputs, job_tapes, job_text, text_bytes}
+use Rattle.theory_calls.specs.Calls.{Listing, Accepts, at_wire, job_file, job_inputs, job_tapes, job_text}
 use Rattle.theory_calls.proofs.Accepted.{listing_ok}
 use Rattle.theory_calls.proofs.RunCall.{opens_plain}
 use Rattle.theory_calls.proofs.Limits.{limits, ands_most}

@@ -22,7 +22,7 @@ use Rattle.theory_sharing.proofs.RetapeLaws as L
 use Rattle.theory_sharing.proofs.TapeLaws.{tapes_length}
 use Rattle.theory_sharing.proofs.ViewLaws.{Shown}
 use Rattle.theory_calls.specs.File.{site_of}
-use Rattle.theory_calls.specs.Answer.{good, After}
+use Rattle.theory_calls.specs.Answer.{After}
 use Rattle.theory_calls.specs.Checks.{tapes_want}
 use Rattle.theory_calls.specs.Calls.{ViewOf, RetapeOf, does, Accepts, at_wire}
 use Rattle.theory_calls.proofs.FamilyLaws.{Lawful, group, numbers_ok, draws_ok}

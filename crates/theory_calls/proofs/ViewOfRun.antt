@@ -2,7 +2,7 @@
 -- Assumes nothing.
 use mathlib.Core.Path.{◌≡◌, refl, sym, ap, ap₂, ◌∙◌}
 use mathlib.Core.List.{List, [], ◌∷◌, ◌++◌}
-use Prim.Native.Nat.{ℕ, zero, suc, ◌+◌}
+use Prim.Native.Nat.{ℕ, zero, suc}
 use lib.ListN.{get_or}
 use Rattle.theory_sharing.specs.Sites.{of, Trio}
 use Rattle.theory_sharing.specs.Circuit.{Errors, no_errors}
@@ -14,7 +14,6 @@ use Rattle.theory_sharing.specs.View.{own_ins, seen_outs, view_from}
 use Rattle.theory_sharing.proofs.Parts.{AllDraws}
 use Rattle.theory_sharing.proofs.Clean.{clean_sent}
 use Rattle.theory_sharing.proofs.ViewLaws as VL
-use Rattle.theory_sharing.proofs.RetapeLaws as L
 use Rattle.theory_calls.specs.File.{site_of}
 use Rattle.theory_calls.specs.Answer.{After}
 use Rattle.theory_calls.specs.Calls.{Call, RunOf, ViewOf, Accepts, buffer, at_wire}

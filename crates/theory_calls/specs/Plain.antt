@@ -4,7 +4,7 @@
 --     plain_values       the inputs, then the gates by number
 --     plain C xs         the values of all W wires under inputs xs, as bytes
 -- That OR by flips equals OR, and that these are the values that the sharing computes with, is proofs/PlainLaws.antt.
-use Rattle.std.specs.Prelude.{Bool, true, false, not, ◌&&◌, ◌||◌, cond, List, [], ◌∷◌, ◌++◌, map, ℕ, zero, suc, get_or}
+use Rattle.std.specs.Prelude.{Bool, true, false, not, ◌&&◌, ◌||◌, List, [], ◌∷◌, ◌++◌, map, ℕ, zero, suc, get_or}
 use Rattle.std.specs.Bool.{xor}
 use Rattle.theory_sharing.specs.Circuit.{Gate, XOR, AND, OR, NOT, Circuit}
 

@@ -1,1 +1,3 @@
+#![tactic(auto)]
+
 // Definitions and laws only: document 01, call by call. Nothing here runs.

@@ -1,5 +1,5 @@
 -- T-01's worked examples, computed: one theorem over the list of rows, in any room of 20,000 bytes.
-use mathlib.Core.Path.{◌≡◌, refl}
+use mathlib.Core.Path.{◌≡◌}
 use mathlib.Core.List.{List, map}
 use Prim.Native.Nat.{ℕ}
 use lib.ListN.{length}

@@ -12,14 +12,13 @@ use Rattle.theory_calls.specs.Checks.{Refusal}
 use Rattle.theory_calls.specs.Refusal.{FirstRefusal}
 use Rattle.theory_calls.specs.Calls.{Call, GateAt, OwnerAt, OutputAt, Check, Plain, Run, does, Accepts, buffer}
 use Rattle.theory_calls.specs.Statements.{bit_family, Bits, Clean, plain_outs}
-use Rattle.theory_files.specs.Written.{Numbers3}
 use Rattle.bristol_text.specs.Words.{lines}
 use Rattle.bristol_text.specs.Lines.{Line, blank, bad, counts, widths, other_word, xor_gate, and_gate, inv_gate, eqw_gate}
 use Rattle.bristol_text.specs.Heard.{heard}
 use Rattle.bristol_text.specs.Meaning.{text_outs}
 use Rattle.bristol_text.specs.Renamed.{renamed, spread, text_file}
 use Rattle.bristol_text.specs.Order.{our_gate, our_gates, Takes, Named}
-use Rattle.bristol_text.specs.Call.{fault_at, room_bytes, FromBristol}
+use Rattle.bristol_text.specs.Call.{fault_at, FromBristol}
 use Rattle.bristol_text.specs.Good.{Good}
 use Rattle.bristol_text.proofs as laws
 use Rattle.theory_demands.specs.Public.{text_numbers}
@@ -39,7 +38,7 @@ module _ (text owners room : List ℕ) where
 
   -- which is 15, 16 or 17 where there is one.
   pub line_faults : (P : ℕ) → ¬ (fault_at (lines text) P ≡ 0) → (15 ≤ fault_at (lines text) P) × (fault_at (lines text) P ≤ 17)
-  line_faults = laws.Faults.fault-at-numbers (lines text)
+  line_faults = laws.Faults.fault_at_numbers (lines text)
 
   -- The call is refused by the first of these checks whose condition holds, and by no other:
   pub text_refused_exactly : (N P : ℕ) → ((does called).answer ≡ refused N P) ↔ FirstRefusal called.checks N P
@@ -47,7 +46,7 @@ module _ (text owners room : List ℕ) where
 
   -- by its first, "10 for the room, place 0", exactly where that has not 20,000 bytes,
   pub refused_for_the_room : (N P : ℕ) → ((r : FirstRefusal called.checks N P) × (r.which ≡ 0)) ↔ ((N ≡ 10) × (P ≡ 0) × ¬ (length room ≡ 20000))
-  refused_for_the_room = laws.Faults.room-first text owners room
+  refused_for_the_room = laws.Faults.room_first text owners room
 
   -- and by its second, "first by line ..", exactly where the room is as it should be and P is the first line with a fault, which is N.
   -- Lines are counted from 1: 0 is none, and has no fault.
@@ -57,16 +56,16 @@ module _ (text owners room : List ℕ) where
 
   -- A refusal writes nothing.
   pub refused_text_changes_nothing : (N P : ℕ) → (does called).answer ≡ refused N P → (does called).lent ≡ room ∷ []
-  refused_text_changes_nothing = laws.WholeCall.refused-writes-nothing text owners room
+  refused_text_changes_nothing = laws.WholeCall.refused_writes_nothing text owners room
 
   -- A call is accepted exactly where the room has its length and the text is good for these owners: no line has a fault, no line is missing, every
   -- output wire is written, an owner 1 to 3 for each input value, "and our limits hold then".
   pub text_accepted_exactly : Accepts called ↔ (Good (lines text) owners × (length room ≡ 20000))
-  text_accepted_exactly = (laws.WholeCall.call-good text owners room, λ h. laws.WholeCall.good-call text owners room h.0 h.1)
+  text_accepted_exactly = (laws.WholeCall.call_good text owners room, λ h. laws.WholeCall.good_call text owners room h.0 h.1)
 
   -- "the answer is the file's length": one number
   pub accepted_text_answers_a_length : Accepts called → (n : ℕ) × ((does called).answer ≡ good (n ∷ []))
-  accepted_text_answers_a_length a = (length (text_file text owners), laws.WholeCall.call-answers text owners room a)
+  accepted_text_answers_a_length a = (length (text_file text owners), laws.WholeCall.call_answers text owners room a)
 
 -- how many gates of ours some lines are
 one_adds : (f : ℕ → ℕ) (l : Line) → length (our_gate f l) ≡ adds l
@@ -95,39 +94,39 @@ module _ (text owners room : List ℕ) (n : ℕ) (told : (does (FromBristol text
   file = take n room_after
 
   good_text : Good (lines text) owners
-  good_text = (laws.WholeCall.call-good text owners room (laws.FileCalls.told-accepts text owners room n told)).0
+  good_text = (laws.WholeCall.call_good text owners room (laws.FileCalls.told_accepts text owners room n told)).0
 
   -- how many gates of ours there are
   many : length (renamed (heard (lines text))).gates ≡ text_gates text
-  many = ap length (laws.TextFile.gates-in-order text owners good_text) ∙ lines_add (ours text) (gate_lines text)
+  many = ap length (laws.TextFile.gates_in_order text owners good_text) ∙ lines_add (ours text) (gate_lines text)
 
   -- what is shown of the file as it is defined holds of those bytes
   so : (P : List ℕ → Type 0) → P (text_file text owners) → P file
-  so P h = subst P (sym (laws.FileCalls.told-file text owners room n told)) h
+  so P h = subst P (sym (laws.FileCalls.told_file text owners room n told)) h
 
   -- "write our circuit file": to the byte what the definition says is written,
   pub file_is_the_texts : file ≡ text_file text owners
-  file_is_the_texts = laws.FileCalls.told-file text owners room n told
+  file_is_the_texts = laws.FileCalls.told_file text owners room n told
 
   -- "the answer is the file's length", 01's 32+I+6G+2O,
   pub answer_is_the_files_length : (length file ≡ n) × (n ≡ 32 + text_inputs text + 6 * text_gates text + 2 * text_outputs text)
   unfolding size
   answer_is_the_files_length =
-      let l = laws.FileCalls.told-length text owners room n told in
-      let s = laws.FileCalls.file-size text owners good_text in
+      let l = laws.FileCalls.told_length text owners room n told in
+      let s = laws.FileCalls.file_size text owners good_text in
       let m = many in
       (so (λ f. length f ≡ n) l, omega arith)
 
   -- "and the bytes behind stay."
   pub bytes_behind_stay : drop n room_after ≡ drop n room
-  bytes_behind_stay = laws.FileCalls.told-behind text owners room n told
+  bytes_behind_stay = laws.FileCalls.told_behind text owners room n told
 
   -- The file passes the whole check. Its inputs are the wires of the input values, its gates the gate lines that are no EQW, its outputs the wires of
   -- the output values;
   pub file_is_accepted : (does (Check file)).answer ≡ good (text_inputs text ∷ text_gates text ∷ text_outputs text ∷ [])
   file_is_accepted =
       so (λ f. (does (Check f)).answer ≡ good (text_inputs text ∷ text_gates text ∷ text_outputs text ∷ []))
-      (laws.FileCalls.file-checked text owners good_text ∙ ap (λ (g : ℕ). good (text_inputs text ∷ g ∷ text_outputs text ∷ [])) many)
+      (laws.FileCalls.file_checked text owners good_text ∙ ap (λ (g : ℕ). good (text_inputs text ∷ g ∷ text_outputs text ∷ [])) many)
 
   -- "and our limits hold then."
   pub limits_hold_then : (text_inputs text ≤ 1024) × (text_gates text ≤ 3072) × (text_outputs text ≤ 256)
@@ -135,7 +134,7 @@ module _ (text owners room : List ℕ) (n : ℕ) (told : (does (FromBristol text
 
   -- THE MEANING. "For all inputs our file has the text's plain outputs, by a definition of the text's own meaning."
   pub file_has_the_texts_outputs : (xs : List ℕ) → plain_outs bit_family (circuit file) xs (circuit file).outs ≡ text_outs text xs
-  file_has_the_texts_outputs xs = so (λ f. plain_outs bit_family (circuit f) xs (circuit f).outs ≡ text_outs text xs) (laws.TextFile.same-outputs text owners good_text xs)
+  file_has_the_texts_outputs xs = so (λ f. plain_outs bit_family (circuit f) xs (circuit f).outs ≡ text_outs text xs) (laws.TextFile.same_outputs text owners good_text xs)
 
   -- So a call for plain values is accepted, on inputs of bits and a buffer with a byte for each wire, and leaves at each output's wire its value in the
   -- text; of these there are O.
@@ -145,10 +144,10 @@ module _ (text owners room : List ℕ) (n : ℕ) (told : (does (FromBristol text
       × (length (text_outs text xs) ≡ text_outputs text)
   plain_call_gives_the_texts_outputs xs values b l =
       let m = many in
-      let p = laws.FileCalls.file-plain text owners good_text xs values b (omega arith) in (
+      let p = laws.FileCalls.file_plain text owners good_text xs values b (omega arith) in (
         so (λ f. (does (Plain f xs values)).answer ≡ good []) p.0,
         so (λ f. (o : ℕ) → o < text_outputs text → get_or (buffer 0 (Plain f xs values)) ((circuit f).out o) 0 ≡ get_or (text_outs text xs) o 0) p.1,
-        laws.FileCalls.outs-many text xs,
+        laws.FileCalls.outs_many text xs,
       )
 
   -- And a run of the file that is accepted opens, on an undisturbed line, at all three sites to the text's outputs.
@@ -157,24 +156,24 @@ module _ (text owners room : List ℕ) (n : ℕ) (told : (does (FromBristol text
   clean_run_opens_the_texts_outputs xs tapes line outs tr st =
       so (λ f. let r = Run f xs tapes line outs tr st in
       Accepts r → Clean line → ((does r).answer ≡ good []) × (buffer 0 r ≡ flat_map (λ (v : ℕ). v ∷ v ∷ v ∷ []) (text_outs text xs)))
-      (laws.FileCalls.file-opens text owners good_text xs tapes line outs tr st)
+      (laws.FileCalls.file_opens text owners good_text xs tapes line outs tr st)
 
   -- GATES AND WIRES. "XOR, AND and INV map to ours in the text's order": gate k is the k-th of them, on our numbers of its wires; EQW is none of them.
   pub gates_stand_in_the_texts_order : (k : ℕ) → k < text_gates text → let g = get_or (our_gates (ours text) (gate_lines text)) k (0, 0, 0) in
       (does (GateAt file k)).answer ≡ good (g.0 ∷ g.1 ∷ g.2 ∷ [])
   gates_stand_in_the_texts_order k l =
       so (λ f. let g = get_or (our_gates (ours text) (gate_lines text)) k (0, 0, 0) in (does (GateAt f k)).answer ≡ good (g.0 ∷ g.1 ∷ g.2 ∷ []))
-      (laws.FileCalls.file-gate text owners good_text k (let m = many in omega arith))
+      (laws.FileCalls.file_gate text owners good_text k (let m = many in omega arith))
 
   -- "Wires are numbered anew": "Inputs are the lowest wires" and keep their numbers,
   pub inputs_keep_their_numbers : (w : ℕ) → w < text_inputs text → ours text w ≡ w
-  inputs_keep_their_numbers = laws.TextFile.inputs-stay text owners good_text
+  inputs_keep_their_numbers = laws.TextFile.inputs_stay text owners good_text
 
   -- the wire that gate line k writes has the next number of ours, I and one more for each gate of ours before it, but that of an EQW,
   pub wires_take_the_next_number : (k : ℕ) → Takes (ours text) (text_inputs text + without_eqw (take k (gate_lines text))) (get_or (gate_lines text) k blank)
   wires_take_the_next_number k =
       subst (λ (m : ℕ). Takes (ours text) (text_inputs text + m) (get_or (gate_lines text) k blank)) (lines_add (ours text) (take k (gate_lines text)))
-      (laws.TextFile.wires-numbered text owners good_text k)
+      (laws.TextFile.wires_numbered text owners good_text k)
 
   -- which has the number of the wire that it reads: "EQW renames a wire",
   pub eqw_renames_a_wire : (k x z : ℕ) → get_or (gate_lines text) k blank ≡ eqw_gate x z → ours text z ≡ ours text x
@@ -183,15 +182,15 @@ module _ (text owners room : List ℕ) (n : ℕ) (told : (does (FromBristol text
 
   -- and every number below I + G is that of a written wire of the text.
   pub no_number_is_left_out : (v : ℕ) → v < text_inputs text + text_gates text → Named (heard (lines text)) v
-  no_number_is_left_out v l = laws.TextFile.every-number-named text owners good_text v (let m = many in omega arith)
+  no_number_is_left_out v l = laws.TextFile.every_number_named text owners good_text v (let m = many in omega arith)
 
   -- "Read it with an owner for each input value": each once for each wire of the value, in order.
   pub owners_go_by_value : (i : ℕ) → i < text_inputs text → (does (OwnerAt file i)).answer ≡ good (get_or (spread owners (heard (lines text)).ins) i 0 ∷ [])
   owners_go_by_value i l =
-      so (λ f. (does (OwnerAt f i)).answer ≡ good (get_or (spread owners (heard (lines text)).ins) i 0 ∷ [])) (laws.FileCalls.file-owner text owners good_text i l)
+      so (λ f. (does (OwnerAt f i)).answer ≡ good (get_or (spread owners (heard (lines text)).ins) i 0 ∷ [])) (laws.FileCalls.file_owner text owners good_text i l)
 
   -- "outputs the highest": output o is our number of the text's wire W - O + o.
   pub outputs_are_the_highest_wires : (o : ℕ) → o < text_outputs text
       → (does (OutputAt file o)).answer ≡ good (ours text (wire_count text - text_outputs text + o) ∷ [])
   outputs_are_the_highest_wires o l =
-      so (λ f. (does (OutputAt f o)).answer ≡ good (ours text (wire_count text - text_outputs text + o) ∷ [])) (laws.FileCalls.file-output text owners good_text o l)
+      so (λ f. (does (OutputAt f o)).answer ≡ good (ours text (wire_count text - text_outputs text + o) ∷ [])) (laws.FileCalls.file_output text owners good_text o l)

@@ -15,7 +15,7 @@ use lib.Dec.{ltb}
 use borrow.Author.Tests.{lt-ltb, ltb-true, ltb-false}
 use Rattle.theory_sharing.specs.Circuit.{Circuit, wires}
 use Rattle.theory_calls.specs.Answer.{good, After}
-use Rattle.theory_calls.specs.Checks.{row_asked, Refusal, refusal, header_checks, file_checks, inputs_check, buffers_check}
+use Rattle.theory_calls.specs.Checks.{row_asked, refusal, header_checks, file_checks, inputs_check, buffers_check}
 use Rattle.theory_calls.specs.Calls.{GateAt, OwnerAt, OutputAt, CheckOf, PlainOf, does, Accepts, buffer}
 use Rattle.theory_calls.specs.Statements.{Family, circuit_with, Numbers, out_of, plain_outs, opened_plain}
 use Rattle.theory_calls.proofs.FamilyLaws.{Lawful}

@@ -4,7 +4,7 @@
 --     gate_bytes         "Gates: G records of three u16, kind, first, second"
 --     file_of            owners, gates and outputs as a file: "The parts follow each other without gaps"
 --     Within             01's limits
-use Rattle.std.specs.Prelude.{List, [], ◌∷◌, ◌++◌, ℕ, ◌+◌, ◌*◌, ◌/◌, ◌%◌, ◌≤◌, length}
+use Rattle.std.specs.Prelude.{List, [], ◌∷◌, ◌++◌, ℕ, ◌/◌, ◌%◌, ◌≤◌, length}
 use Rattle.theory_calls.specs.File.{size, gates_start, outputs_start}
 
 unfoldable pub two : ℕ → List ℕ

@@ -54,7 +54,7 @@ module _ (m : ℕ) where
 
     pub addm_zero : (a : ℕ) → a < m → addm m a 0 ≡ a
     unfolding addm
-    addm_zero a h = ap (λ (z : ℕ). z % m) (Nat.add_zero a) ∙ mod-eq_of_lt h
+    addm_zero a h = ap (λ (z : ℕ). z % m) (Nat.add-zero a) ∙ mod-eq_of_lt h
 
     pub addm_lt : (a b : ℕ) → addm m a b < m
     unfolding addm
@@ -77,7 +77,7 @@ module _ (m : ℕ) where
       ok_sub = subm_lt;
       add_assoc = addm_assoc;
       add_comm = addm_comm;
-      mul-add = mulm_add;
+      mul_add = mulm_add;
       add_mul = addm_mul;
       sub_add = subm_add;
       add_sub = addm_sub;

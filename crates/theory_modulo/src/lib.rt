@@ -1,1 +1,3 @@
+#![tactic(auto)]
+
 // Definitions and laws only: numbers modulo any m as a second family beside bits. Nothing here runs.

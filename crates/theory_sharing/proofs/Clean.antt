@@ -5,19 +5,18 @@
 --     clean_sent      every bit sent is the published one
 -- Assumes nothing.
 use mathlib.Core.Path.{◌≡◌, refl, sym, ap, ap₂, ◌∙◌}
-use mathlib.Core.Bool.{Bool, true, false, cond}
 use mathlib.Core.List.{List, [], ◌∷◌, ◌++◌, map}
-use Prim.Native.Nat.{ℕ, zero, suc, ◌+◌}
+use Prim.Native.Nat.{ℕ, zero, suc}
 use lib.ListN.{get_or, get_or-map}
 use borrow.Author.Tests.{eq-eqb}
-use Rattle.theory_sharing.specs.Sites.{Site, s1, s2, s3, Trio, of}
+use Rattle.theory_sharing.specs.Sites.{Site, s1, s2, s3, Trio}
 use Rattle.theory_sharing.specs.Circuit.{Gate, XOR, AND, OR, NOT, Circuit, Draws, none, no_errors}
 use Rattle.theory_sharing.specs.Values.{values}
 use Rattle.theory_sharing.specs.Order.{if_deals}
-use Rattle.theory_sharing.specs.Published.{Parts, no_parts, Deal, deal, dealt, deal_bits, open_bits, total, share, add_parts, flip_parts, mul_parts, gate_parts, left, right, product_of, gate_deal, ins_parts, parts, out_parts, ins_bits, gates_bits, sent_bits}
-use Rattle.theory_sharing.specs.Steps.{Pair, Wire, no_wire, hold, kept, to_next, to_prev, delivered, in_wire, add_pair, add_wire, flip, local, deals, delivered3, mix, mul_wire, gate_wire, gate_delivered, unlike, objecting, copies, six, opened}
-use Rattle.theory_sharing.specs.Run.{ins_after, after, ins_delivered, gates_delivered, output, out_delivered, copies_at, objects, opens_delivered, opened_at, outputs}
-use Rattle.theory_sharing.proofs.Group.{Group, sums, assoc, comm, left_comm, turn}
+use Rattle.theory_sharing.specs.Published.{Parts, no_parts, Deal, deal, dealt, deal_bits, open_bits, total, add_parts, flip_parts, mul_parts, gate_parts, left, right, product_of, ins_parts, parts, out_parts, ins_bits, gates_bits, sent_bits}
+use Rattle.theory_sharing.specs.Steps.{no_wire, hold, delivered, in_wire, add_wire, flip, deals, delivered3, mix, mul_wire, gate_wire, gate_delivered, unlike, objecting, copies, six, opened}
+use Rattle.theory_sharing.specs.Run.{ins_after, after, ins_delivered, gates_delivered, output, out_delivered, objects, opens_delivered, opened_at}
+use Rattle.theory_sharing.proofs.Group.{Group, sums, turn}
 use Rattle.theory_sharing.proofs.Parts.{map_snoc, AllDraws, Each, parts_ok, total_at}
 
 pub look_hold : (ps : List Parts) (w : ℕ) → get_or (map hold ps) w no_wire ≡ hold (get_or ps w no_parts)

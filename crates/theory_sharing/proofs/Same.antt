@@ -1,25 +1,25 @@
 -- With the new draws site s sees the same.
 --     view_same     own inputs, tape, delivered bits and opened values, each by the count
 -- Assumes nothing.
-use mathlib.Core.Path.{◌≡◌, refl, sym, ap, ap₂, ◌∙◌, fun_ext}
-use mathlib.Core.List.{List, [], ◌∷◌, ◌++◌, map, append_assoc}
-use Prim.Native.Nat.{ℕ, zero, suc, ◌+◌, ◌*◌, ◌<◌, ◌≤◌}
+use mathlib.Core.Path.{◌≡◌, refl, sym, ap, ap₂, ◌∙◌}
+use mathlib.Core.List.{List, [], ◌∷◌, ◌++◌, map}
+use Prim.Native.Nat.{ℕ, zero, suc, ◌<◌, ◌≤◌}
 use native.Mathlib.Omega.{arith}
-use lib.ListN.{length, get_or, length-append}
-use Rattle.theory_sharing.specs.Sites.{Site, s1, s2, s3, next, prev, Trio, of, if_own}
+use lib.ListN.{get_or}
+use Rattle.theory_sharing.specs.Sites.{Site, s1, s2, s3, next, prev, of, if_own}
 use Rattle.theory_sharing.specs.Circuit.{Gate, XOR, AND, OR, NOT, Circuit, Draws}
 use Rattle.theory_sharing.specs.Values.{values}
 use Rattle.theory_sharing.specs.Order.{if_deals}
-use Rattle.theory_sharing.specs.Published.{Parts, no_parts, total, share, flip_parts, three, gate_parts, left, right, product, product_of, ins_parts, parts, out_parts}
+use Rattle.theory_sharing.specs.Published.{Parts, no_parts, total, share, flip_parts, three, left, right, product_of, parts}
 use Rattle.theory_sharing.specs.Steps.{Pair, local}
 use Rattle.theory_sharing.specs.Tapes.{ins_tape, tape}
 use Rattle.theory_sharing.specs.View.{own_ins}
 use Rattle.theory_sharing.specs.Retape.{mine, rest, next_product, flip_mine, next_shares, shift, retape}
-use Rattle.theory_sharing.proofs.SiteLaws.{Seen, itself, behind, before, seen, own_itself, own_behind, own_before}
-use Rattle.theory_sharing.proofs.Group.{Group, move, rest_inj}
-use Rattle.theory_sharing.proofs.Seen.{got, got_itself, got_behind, got_before, to_site, to_site3, ins_got, gates_got, all_got, seen_totals, seen_view}
-use Rattle.theory_sharing.proofs.Parts.{map_snoc, value, look, flip_total, AllDraws, Each, AllParts, flip_ok, parts_ok}
-use Rattle.theory_sharing.proofs.Mine.{both, share_itself, share_behind, share_before, last_part, look_mine, mine_flip, shift_itself, shift_behind, shift_before, input_same, retape_ok, mine_same}
+use Rattle.theory_sharing.proofs.SiteLaws.{Seen, itself, behind, before, seen, own_behind, own_before}
+use Rattle.theory_sharing.proofs.Group.{Group, move}
+use Rattle.theory_sharing.proofs.Seen.{got, got_itself, ins_got, gates_got, all_got, seen_totals, seen_view}
+use Rattle.theory_sharing.proofs.Parts.{value, look, flip_total, AllDraws, Each, AllParts, flip_ok, parts_ok}
+use Rattle.theory_sharing.proofs.Mine.{both, share_behind, share_before, last_part, look_mine, mine_flip, shift_itself, shift_behind, shift_before, input_same, retape_ok, mine_same}
 
 -- only what is its own counts
 own_same : (s t : Site) → Seen s t → (l l' : List ℕ) → (t ≡ s → l ≡ l') → if_own s t l ≡ if_own s t l'

@@ -6,15 +6,15 @@
 --     draws_all        what holds of every bit of the tapes, and of 0, holds of every draw;  written_all: and back
 -- Assumes nothing.
 use mathlib.Core.Path.{◌≡◌, refl, sym, ap, ap₂, ◌∙◌}
-use mathlib.Core.Bool.{true, false, cond}
+use mathlib.Core.Bool.{cond}
 use mathlib.Core.List.{List, [], ◌∷◌, ◌++◌, append_assoc, append-nil}
-use Prim.Native.Nat.{ℕ, zero, suc, ◌+◌, ◌*◌, ◌<◌, ◌≤◌}
+use Prim.Native.Nat.{ℕ, zero, suc, ◌+◌, ◌*◌, ◌≤◌}
 use native.Mathlib.Omega.{arith}
 use native.Mathlib.Numerals.{add-one}
 use native.Mathlib.Nat.{add-zero}
-use lib.ListN.{length, get_or, take, drop, length-append, length-take, length-drop, take-append-drop}
-use lib.Seq.{take-suc, take-length, append_snoc, take_at, drop_at, length-take-le, drop-drop, get_or-drop}
-use Rattle.theory_sharing.specs.Sites.{Site, s1, s2, s3, next, prev, Trio, of, is, if_own}
+use lib.ListN.{length, get_or, take, drop, length-append, length-drop, take-append-drop}
+use lib.Seq.{take-suc, take-length, take_at, drop_at, length-take-le, drop-drop, get_or-drop}
+use Rattle.theory_sharing.specs.Sites.{Site, s1, s2, s3, Trio, of, is, if_own}
 use Rattle.theory_sharing.specs.Circuit.{Gate, XOR, AND, OR, NOT, Circuit, Draws, dealing, ands, owned, all_ands, all_owned}
 use Rattle.theory_sharing.specs.Order.{if_deals}
 use Rattle.theory_sharing.specs.Tapes.{tape_length, tapes_sum, cut, join, draws, read, ins_tape, tape, written}

@@ -3,24 +3,23 @@
 --     same_tapes          two sets of draws with the same view fill the same tapes
 -- Assumes nothing.
 use mathlib.Core.Path.{◌≡◌, refl, sym, ap, ap₂, ◌∙◌, fun_ext}
-use mathlib.Core.List.{List, [], ◌∷◌, ◌++◌, map, append_assoc}
-use Prim.Native.Nat.{ℕ, zero, suc, ◌+◌, ◌*◌, ◌<◌, ◌≤◌}
+use mathlib.Core.List.{List, [], ◌∷◌, ◌++◌}
+use Prim.Native.Nat.{ℕ, zero, suc, ◌+◌}
 use native.Mathlib.Omega.{arith}
-use lib.ListN.{length, get_or, length-append}
-use Rattle.theory_sharing.specs.Sites.{Site, s1, s2, s3, next, prev, Trio, of, if_own}
+use lib.ListN.{length, length-append}
+use Rattle.theory_sharing.specs.Sites.{Site, s1, s2, s3, next, prev, if_own}
 use Rattle.theory_sharing.specs.Circuit.{Gate, XOR, AND, OR, NOT, Circuit, Draws}
-use Rattle.theory_sharing.specs.Values.{values}
 use Rattle.theory_sharing.specs.Order.{if_deals}
-use Rattle.theory_sharing.specs.Published.{Parts, no_parts, total, share, flip_parts, three, gate_parts, left, right, product, product_of, ins_parts, parts, out_parts}
-use Rattle.theory_sharing.specs.Steps.{Pair, local}
+use Rattle.theory_sharing.specs.Published.{Parts, share, gate_parts, product_of, ins_parts, parts}
+use Rattle.theory_sharing.specs.Steps.{Pair}
 use Rattle.theory_sharing.specs.Tapes.{ins_tape, tape}
 use Rattle.theory_sharing.specs.View.{own_ins}
-use Rattle.theory_sharing.specs.Retape.{mine, rest, next_product, flip_mine, next_shares, shift, retape}
+use Rattle.theory_sharing.specs.Retape.{mine, rest}
 use Rattle.theory_sharing.proofs.SiteLaws.{Seen, itself, behind, before, seen, own_itself, own_behind, own_before}
-use Rattle.theory_sharing.proofs.Group.{Group, move, rest_inj}
+use Rattle.theory_sharing.proofs.Group.{Group, rest_inj}
 use Rattle.theory_sharing.proofs.Seen.{got, got_itself, got_behind, got_before, to_site, to_site3, ins_got, gates_got, all_got, seen_totals, seen_view}
 use Rattle.theory_sharing.proofs.Parts.{AllDraws}
-use Rattle.theory_sharing.proofs.Mine.{share_itself, share_behind, share_before}
+use Rattle.theory_sharing.proofs.Mine.{share_behind, share_before}
 
 pub split : {A : Type 0} (xs ys us ws : List A) → length xs ≡ length ys → xs ++ us ≡ ys ++ ws → (xs ≡ ys) × (us ≡ ws)
 split [] [] us ws h e = (refl, e)

@@ -3,7 +3,7 @@
 -- Assumes nothing.
 use mathlib.Core.Path.{◌≡◌, refl, ap, ap₂, ◌∙◌, fun_ext}
 use mathlib.Core.List.{List, [], ◌∷◌, ◌++◌}
-use Prim.Native.Nat.{ℕ, zero, suc, ◌+◌}
+use Prim.Native.Nat.{ℕ, zero, suc}
 use lib.ListN.{get_or}
 use Rattle.theory_sharing.specs.Ops.{Ops}
 use Rattle.theory_sharing.specs.Sites.{Site, prev, of, if_own}

@@ -18,8 +18,8 @@ use Rattle.theory_sharing.specs.Circuit.{Circuit, Draws, no_errors, owned, all_o
 use Rattle.theory_sharing.specs.Values.{values}
 use Rattle.theory_sharing.specs.Published.{total, out_parts}
 use Rattle.theory_sharing.specs.Order.{routes, pick}
-use Rattle.theory_sharing.specs.Run.{opened_at, opens_delivered, made, transcript}
-use Rattle.theory_sharing.specs.Tapes.{tape_length, tapes_sum, cut, read, tape}
+use Rattle.theory_sharing.specs.Run.{opens_delivered, transcript}
+use Rattle.theory_sharing.specs.Tapes.{tapes_sum, read, tape}
 use Rattle.theory_sharing.specs.View.{own_ins, seen_outs, view_from}
 use Rattle.theory_sharing.proofs.Group.{Group}
 use Rattle.theory_sharing.proofs.SiteLaws.{Seen, itself, behind, before, seen, is_itself, is_behind, is_before, own_itself, own_behind, own_before}
@@ -27,7 +27,7 @@ use Rattle.theory_sharing.proofs.Parts.{AllDraws, total_at}
 use Rattle.theory_sharing.proofs.Clean.{no_objection, opened_total, thrice}
 use Rattle.theory_sharing.proofs.RunLaws.{stop_none, quiet_made}
 use Rattle.theory_sharing.proofs.OrderLaws.{reaches, got_length}
-use Rattle.theory_sharing.proofs.TapeLaws.{read_tape, cut_sized, gates_length}
+use Rattle.theory_sharing.proofs.TapeLaws.{read_tape, gates_length}
 use Rattle.theory_sharing.proofs.Seen.{all_got, seen_totals, seen_view}
 use Rattle.theory_sharing.proofs.Unique.{split, split_end, own_length, own_agree}
 

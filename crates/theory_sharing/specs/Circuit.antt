@@ -8,7 +8,7 @@
 --     Draws         what the tapes give, by purpose: two draws for each sharing
 --     Errors        what the line adds, by step: the k'th bit of an input, of a gate, of an opening
 -- Draws and errors stand by purpose and not by their place on a tape or on the line: those places are Tapes.antt and Line.antt.
-use Rattle.std.specs.Prelude.{Bool, cond, ℕ, zero, suc, ◌+◌}
+use Rattle.std.specs.Prelude.{cond, ℕ, zero, suc, ◌+◌}
 use Rattle.theory_sharing.specs.Sites.{Site, is}
 
 -- 01: "Kinds: 1 XOR, 2 AND, 3 NOT (second is 0 and reads nothing), 4 OR." Over a group XOR is the sum and AND the product.

@@ -7,7 +7,7 @@
 --     shift              a draw, moved where it is of the site after s
 --     retape             the new draws
 --     new_tapes          the new tapes, as they are lent
-use Rattle.std.specs.Prelude.{cond, List, [], ◌∷◌, map, ℕ, get_or}
+use Rattle.std.specs.Prelude.{cond, List, map, ℕ, get_or}
 use Rattle.theory_sharing.specs.Ops.{Ops}
 use Rattle.theory_sharing.specs.Sites.{Site, s1, s2, s3, next, is, of}
 use Rattle.theory_sharing.specs.Circuit.{Gate, XOR, AND, OR, NOT, Circuit, Draws}

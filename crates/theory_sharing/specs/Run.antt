@@ -7,7 +7,7 @@
 --     made                  how many outputs are opened, the last one perhaps in vain
 --     transcript            the delivered bits of a whole run
 --     opened_at, outputs    what the sites open
-use Rattle.std.specs.Prelude.{Bool, not, cond, List, [], ◌∷◌, ◌++◌, ℕ, zero, suc, min, get_or, eqb}
+use Rattle.std.specs.Prelude.{not, List, [], ◌∷◌, ◌++◌, ℕ, zero, suc, min, get_or, eqb}
 use Rattle.theory_sharing.specs.Ops.{Ops}
 use Rattle.theory_sharing.specs.Sites.{Trio}
 use Rattle.theory_sharing.specs.Circuit.{Circuit, Draws, Errors}

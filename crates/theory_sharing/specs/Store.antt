@@ -4,7 +4,6 @@
 --     store ws         the three sites' parts
 --     fill old new     a lent buffer in which new stands in front: the rest is as it was
 use Rattle.std.specs.Prelude.{List, [], ◌∷◌, ◌++◌, ℕ, length, drop}
-use Rattle.theory_sharing.specs.Sites.{Site, Trio, of}
 use Rattle.theory_sharing.specs.Steps.{Pair, Wire}
 
 unfoldable pub side : {A : Type 0} → (A → Pair) → List A → List ℕ

@@ -5,7 +5,7 @@
 --     traffic_table C                       the nine entries, by rows
 --     add_row, add_up                       the sum of a row, and of a table
 --     table_total C                         the traffic total: the sum of the table
-use Rattle.std.specs.Prelude.{Bool, ◌&&◌, not, cond, List, [], ◌∷◌, ℕ, zero, suc, ◌+◌, ◌*◌}
+use Rattle.std.specs.Prelude.{◌&&◌, not, cond, List, [], ◌∷◌, ℕ, zero, suc, ◌+◌, ◌*◌}
 use Rattle.theory_sharing.specs.Sites.{Site, s1, s2, s3, next, prev, is}
 use Rattle.theory_sharing.specs.Circuit.{Gate, Circuit, dealing}
 

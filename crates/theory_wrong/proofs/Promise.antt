@@ -117,7 +117,7 @@ pub from_bristol_promises : (κs : Lfts 3) (a : Dens κs FromBristolKinds.ps) (z
     ≡ (filed_after z e.1.1.0.now ≡ does (FromBristol a.0.now a.1.0.now a.1.1.0.now))
 from_bristol_promises κs a z e = refl
 
--- the questions to a reader, whose functions are walked by hand: their clauses
+-- the questions to a reader, by their clauses
 module _ {M : Type 1} {𝓤 : Ura M} (𝓛 : Logic 𝓤) (mem : Memory → SProp 𝓤) (run : Routine → Fun 𝓤) (κs : Lfts 1) where
   pub gate_read_promises : (a : Args GateRead.signature κs) (z : Res GateRead.signature κs) (e : AtExit GateRead.ended κs)
       → (GateRead.clauses 𝓛 mem run κs a).ensures tt z e ≡ fact 𝓤 (answers (gate_answer z) ≡ does (GateAt a.0.file.now a.1.0))

@@ -21,7 +21,7 @@ use Rattle.theory_calls.specs.File.{le16, le32, size, owner_at, kind_at, first_a
 use Rattle.theory_calls.specs.Answer.{After, good}
 use Rattle.theory_calls.specs.Checks.{tested, row_owner, good_gate, row_gate_of, row_output, fault, verdict, accepted}
 use Rattle.theory_calls.specs.AtBits.{circuit_checks}
-use Rattle.theory_calls.specs.Calls.{Call, unrefused, ran_of, does, Run, RunOf}
+use Rattle.theory_calls.specs.Calls.{Call, unrefused, ran_of, does, RunOf}
 use Rattle.theory_calls.proofs.CallLaws.{does_good, good_accepts}
 use Rattle.theory_calls.proofs.Accepted.{run_ok}
 use Rattle.run.specs.declared.Ran.TheVariants.{Good}

@@ -1,4 +1,6 @@
 // Traffic: a table of sent bits, three senders by three receivers, by value, filled step by step and returned.
+#![tactic(auto)]
+
 ghost use Rattle.std.specs.Prelude.{◌≡◌, ◌<◌, ◌≤◌};
 ghost use Rattle.theory_calls.specs.File.{circuit};
 ghost use Rattle.theory_calls.specs.Answer.{number_of, place_of};
@@ -13,7 +15,7 @@ use file_header::{Counts, Header};
 use file_parts::Owner;
 
 // A refusal's number and place, 0 and 0 for none.
-#[derive(Drop)]
+#[derive(Clone, Copy)]
 struct Refusal {
     number: usize,
     place: usize,

@@ -1,7 +1,7 @@
 -- What an input adds, by its owner.
 -- Assumes nothing.
 use mathlib.Core.Path.{◌≡◌, refl}
-use mathlib.Core.List.{List, [], ◌∷◌}
+use mathlib.Core.List.{[], ◌∷◌}
 use Prim.Native.Nat.{ℕ, zero, suc}
 use Rattle.theory_sharing.specs.Sites.{is}
 use Rattle.theory_sharing.specs.Traffic.{input_adds}

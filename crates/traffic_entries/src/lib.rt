@@ -1,4 +1,6 @@
 // What one step adds to the table of sent bits, as a table of its own, and the sum of two tables.
+#![tactic(auto)]
+
 ghost use Rattle.std.specs.Prelude.{◌≡◌, ℕ, ◌≤◌};
 ghost use Rattle.traffic_entries.specs.Mirror.{plus, Under, from_input, from_gate, from_output};
 

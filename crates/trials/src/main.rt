@@ -1,4 +1,6 @@
 // Reads a stream of calls from standard input, makes each of them and prints what it answers. docs/TRIALS.md has the form of both.
+#![tactic(auto)]
+
 mod jobs;
 mod retapes;
 mod several;

@@ -1,5 +1,5 @@
 // The questions to a reader that anybody made: a file, and counts that are only claimed. `gate_read` and its two hand a reader's parts to
-// the functions that are called here; a program can hold them apart, and a reader only by a proof by hand.
+// the functions that are called here.
 use file_parts::{Gate, Output, Owner};
 use trials_stream::{input, print};
 

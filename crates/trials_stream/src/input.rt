@@ -2,17 +2,19 @@
 ghost use Rattle.io.specs.Counts.{IsPrefixLen};
 
 use crate::print;
-use libc::STDIN_FILENO;
+
+// The number of standard input.
+const STDIN_FILENO: i32 = 0;
 
 // What was read, or nothing where the program ends here.
-#[derive(Drop)]
+#[derive(Clone, Copy)]
 pub enum Read {
     Is(usize),
     Ended,
 }
 
 // A slice's length. Where it is not whole there is none, and the program ends here.
-#[derive(Drop)]
+#[derive(Clone, Copy)]
 pub struct Taken {
     pub len: usize,
     pub whole: bool,

@@ -1,7 +1,8 @@
 // What is printed, in pieces.
 ghost use Rattle.std.specs.Prelude.{◌<◌, ◌≤◌, length};
 
-use libc::STDOUT_FILENO;
+// The number of standard output.
+const STDOUT_FILENO: i32 = 1;
 
 // A word as it stands.
 pub fn word(text: &[u8]) {

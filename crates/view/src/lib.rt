@@ -1,4 +1,6 @@
 // The view of one site on a clean line: every check, then the four parts of the view, each written into its own part of the buffer.
+#![tactic(auto)]
+
 ghost use Rattle.std.specs.Prelude.{◌≡◌, [], ◌∷◌, ◌+◌, ◌*◌, ◌<◌, ◌≤◌, length};
 ghost use Rattle.theory_sharing.specs.Circuit.{ands};
 ghost use Rattle.theory_calls.specs.File.{circuit, site_of};

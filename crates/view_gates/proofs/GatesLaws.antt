@@ -8,7 +8,7 @@ use Prim.Native.Nat.{ℕ, zero, suc, ◌+◌, ◌*◌, ◌≤◌, ◌<◌}
 use native.Mathlib.Omega.{arith}
 use lib.ListN.{length}
 use Rattle.theory_sharing.specs.Ops.{bits}
-use Rattle.theory_sharing.specs.Sites.{Site, s1, s2, s3, is}
+use Rattle.theory_sharing.specs.Sites.{Site, s1, s2, s3}
 use Rattle.theory_sharing.specs.Circuit.{Circuit, dealing, ands, all_ands, all_owned}
 use Rattle.theory_sharing.specs.Tapes.{tape_length, read}
 use Rattle.theory_sharing.proofs.OrderLaws.{gates_got_length}

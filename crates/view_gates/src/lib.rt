@@ -1,4 +1,6 @@
 // What the gates bring to one site on a clean line: the steps of a run, of which it keeps the bits that reach it.
+#![tactic(auto)]
+
 ghost use Rattle.std.specs.Prelude.{◌≡◌, ◌+◌, ◌*◌, ◌<◌, ◌≤◌, length};
 ghost use Rattle.theory_sharing.specs.Circuit.{dealing};
 ghost use Rattle.theory_calls.specs.File.{circuit, gate_of, site_of};

@@ -1,4 +1,6 @@
 // What the inputs bring to one site on a clean line: the steps of a run, of which it keeps the bits that reach it.
+#![tactic(auto)]
+
 ghost use Rattle.std.specs.Prelude.{◌≡◌, cond, ◌+◌, ◌*◌, ◌<◌, ◌≤◌, length, get_or};
 ghost use Rattle.theory_sharing.specs.Sites.{is};
 ghost use Rattle.theory_sharing.specs.Tapes.{read};

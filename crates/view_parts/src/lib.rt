@@ -1,4 +1,6 @@
 // Three of the four parts of a site's view, each written into its own part of the view: own inputs, delivered bits, opened bits. Own tape is a copy.
+#![tactic(auto)]
+
 ghost use Rattle.std.specs.Prelude.{◌≡◌, cond, ◌+◌, ◌*◌, ◌<◌, ◌≤◌, length, get_or};
 ghost use Rattle.theory_sharing.specs.Sites.{is};
 ghost use Rattle.theory_sharing.specs.Circuit.{all_owned};

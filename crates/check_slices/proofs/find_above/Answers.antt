@@ -1,0 +1,15 @@
+use borrow.Author.Rules.{rules}
+use Rattle.theory_sharing.proofs.FirstLaws.{clear_none, found, passed, ended}
+use Rattle.check_slices.proofs.find_above.Goals as goal
+
+pub loop-k-init : goal.loop-k-init
+loop-k-init c = (search rules, clear_none _)
+
+pub returns-then-byte_above : goal.returns-then-byte_above
+returns-then-byte_above c = found _ _ _ _ c.loop-k.invariant.1 (search rules) c.byte_above.ensures c.if-byte_above.true
+
+pub loop-k-preserved : goal.loop-k-preserved
+loop-k-preserved c = (search rules, passed _ _ _ c.loop-k.invariant.1 c.byte_above.ensures c.if-byte_above.false)
+
+pub returns : goal.returns
+returns c = ended _ _ _ c.loop-k.invariant.1 c.loop-k.invariant.0 c.loop-k-test.false

@@ -1,0 +1,14 @@
+use mathlib.Core.Path.{sym, ap}
+use Rattle.file_parts.specs.declared.Owner.{Owner}
+use Rattle.theory_calls.specs.Answer.{number_of, place_of}
+use Rattle.file_parts.specs.Answers.{owner_answer}
+use Rattle.door_answers.specs.Told.{sites_of, value_of, told_owner}
+use Rattle.door_answers.proofs.owner_told.Goals as goal
+
+pub returns-in-Is : goal.returns-in-Is
+unfolding number_of place_of sites_of value_of owner_answer
+returns-in-Is c = sym (ap (λ (x : Owner). told_owner (owner_answer x)) c.in-Is.is)
+
+pub returns-in-Refused : goal.returns-in-Refused
+unfolding number_of place_of sites_of value_of owner_answer
+returns-in-Refused c = sym (ap (λ (x : Owner). told_owner (owner_answer x)) c.in-Refused.is)

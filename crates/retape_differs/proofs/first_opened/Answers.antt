@@ -1,0 +1,15 @@
+use borrow.Author.Rules.{rules}
+use Rattle.theory_sharing.proofs.FirstLaws.{clear_none, found, passed, ended}
+use Rattle.retape_differs.proofs.first_opened.Goals as goal
+
+pub loop-k-init : goal.loop-k-init
+loop-k-init c = (search rules, clear_none _)
+
+pub returns-then-opened_bad : goal.returns-then-opened_bad
+returns-then-opened_bad c = found _ _ _ _ c.loop-k.invariant.1 (search rules) c.opened_bad.ensures c.if-opened_bad.true
+
+pub loop-k-preserved : goal.loop-k-preserved
+loop-k-preserved c = (search rules, passed _ _ _ c.loop-k.invariant.1 c.opened_bad.ensures c.if-opened_bad.false)
+
+pub returns : goal.returns
+returns c = ended _ _ _ c.loop-k.invariant.1 c.loop-k.invariant.0 c.loop-k-test.false
