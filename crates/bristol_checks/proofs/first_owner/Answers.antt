@@ -1,6 +1,5 @@
-use mathlib.Core.Path.{ap}
-use mathlib.Core.Bool.{not}
 use mathlib.Core.Path.{refl, ap}
+use mathlib.Core.Bool.{not}
 use Rattle.theory_sharing.proofs.FirstLaws.{clear_none, found, passed, ended}
 use borrow.Author.Rules.{rules}
 use Rattle.bristol_checks.proofs.first_owner.Goals as goal
