@@ -391,7 +391,9 @@ def problems():
         most = size[member](large[0], large[1], large[2], large[1], large[0])
         if defined(name + "_BYTES_MAX") != most:
             yield f"BAKEBUTTON_{name}_BYTES_MAX is not {most}"
-    whole = re.search(r"if n != (.*) \{", source("crates/file_header/src/lib.rt")).group(1)
+    whole = re.search(r"if f\.length != (.*) \{", source("crates/file_header/src/lib.rt")).group(1)
+    for field, letter in (("f.inputs", "i"), ("f.gates", "g"), ("f.outputs", "o")):
+        whole = whole.replace(field, letter)
     for i, g, o, _, _ in tries:
         if macro("FILE_BYTES", inputs=i, gates=g, outputs=o) != eval(whole, {}, {"i": i, "g": g, "o": o}):
             yield f"BAKEBUTTON_FILE_BYTES is wrong for {(i, g, o)}"

@@ -293,7 +293,7 @@ def trial_problems():
     if rows != [(str(number), name) for number, name in enumerate(forms, 1)]:
         yield f"docs/TRIALS.md has other calls than evaluator/stream.c: {rows}"
     program = "".join(path.read_text() for name in ("trials", "trials_calls") for path in (ROOT / "crates" / name / "src").glob("*.rt"))
-    if f"1..={len(forms)} => true" not in program:
+    if f"1..={len(forms)})" not in program:
         yield f"crates/trials/src/main.rt does not make the {len(forms)} calls"
     for name, call in header.promised():
         checks = set(header.orders()[1].get(call, ()))
@@ -302,8 +302,7 @@ def trial_problems():
             yield f"evaluator/kinds.py asks of {name} for other refusals than its checks have, {sorted(checks)}"
     for path, name, _ in public_calls():
         crate = path.parts[1]
-        asked = re.sub(r"_read$", "_claimed", name or "")  # what a question to a reader hands its parts to
-        if crate != "door" and f"{crate}::{asked}(" not in program:
+        if crate != "door" and f"{crate}::{name}(" not in program:
             yield f"the trials do not ask {crate}::{name}"
 
 

@@ -1,21 +1,13 @@
 -- What the checks behind the last line say, by what code knows. No public contract cites these.
---     found           a refusal's number and place as a verdict: 0 for none
---     bad_owner       4's test of an owner
 --     outs_entered    whether every output wire has an entry
 --     given_checks    4 and 2;  rest_verdict: all of them
-use Rattle.std.specs.Prelude.{Bool, not, cond, ◌||◌, List, [], ◌∷◌, ℕ, ◌-◌, get_or, eqb}
-use Rattle.theory_calls.specs.Checks.{Refusal, refusal, one_to_three, limits_row, Verdict, accepted, refuses, verdict}
+use Rattle.std.specs.Prelude.{Bool, not, cond, ◌||◌, List, [], ◌∷◌, ℕ, ◌-◌, eqb}
+use Rattle.theory_calls.specs.Checks.{Refusal, refusal, limits_row, Verdict, refuses, verdict}
 use Rattle.bristol_text.specs.Heard.{count_up}
 use Rattle.bristol_text.specs.Call.{row_values}
+use Rattle.bristol_text.specs.Told.{header_lines}
 use Rattle.bristol_wires.specs.declared.Text.{Text}
 use Rattle.bristol_laws.specs.Matches.{all_entered}
-use Rattle.bristol_checks.specs.declared.Fault.{Fault}
-
-abbrev pub found : Fault → Verdict
-found r = cond (eqb r.number 0) accepted (refuses r.number r.place)
-
-abbrev pub bad_owner : List ℕ → ℕ → Bool
-bad_owner os k = not (one_to_three (get_or os k 0))
 
 abbrev pub outs_entered : List ℕ → Text → Bool
 outs_entered m t = all_entered m t.ins (count_up (t.wires - t.outs) t.outs)
@@ -25,5 +17,5 @@ given_checks t os = refusal 4 (row_values os t.values) ∷ refusal 2 (limits_row
 
 unfoldable pub rest_verdict : ℕ → Text → List ℕ → List ℕ → Verdict
 rest_verdict n t m os =
-    cond (not (eqb t.stage 3) || not (eqb t.left 0)) (refuses 15 n)
+    cond (not (eqb (header_lines t.stage) 3) || not (eqb t.left 0)) (refuses 15 n)
     (cond (not (outs_entered m t)) (refuses 17 n) (verdict (given_checks t os)))

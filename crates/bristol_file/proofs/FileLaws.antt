@@ -1,32 +1,18 @@
 -- What holds of owners, outputs and the file as they are written.
---     owner_turn, owner_end      one owner, wire by wire
---     outs_turn, outs_end        the outputs, from the first on: what is left to write
+--     Outs, outs_start, outs_turn, outs_end    the outputs, from the first on: what is left to write
 --     header_put                 eight fields, one after the other
 -- Assumes nothing.
-use mathlib.Core.Path.{◌≡◌, sym, ap, ◌∙◌}
-use mathlib.Core.List.{List, ◌++◌, map}
-use Prim.Native.Nat.{ℕ, ◌+◌, ◌-◌, ◌<◌, ◌≤◌}
+use mathlib.Core.Path.{◌≡◌, refl, sym, ◌∙◌}
+use mathlib.Core.List.{List, ◌∷◌, ◌++◌, map}
+use Prim.Native.Nat.{ℕ, suc, ◌+◌, ◌*◌, ◌-◌, ◌<◌}
 use native.Mathlib.Omega.{arith}
-use lib.ListN.{length, take, set, replicate, length-replicate, get_or-replicate}
 use Rattle.theory_sharing.specs.Store.{fill}
 use Rattle.theory_calls.specs.File.{size, gates_start, outputs_start}
 use Rattle.theory_files.specs.Written.{two, four, header_bytes, output_bytes}
 use Rattle.theory_files.proofs.ReadBack.{length_header}
 use Rattle.bristol_text.specs.Heard.{count_up}
-use Rattle.bristol_text.proofs.CountLaws.{count_start, count_one, count_none}
 use Rattle.file_writer.specs.Mirror.{write}
-use Rattle.file_writer.proofs.WriteLaws.{write_write, write_none, word_turn, word_end, Put, put_put, put_filled}
-
-pub owner_turn : (at o n : ℕ) (l m : List ℕ) (k : ℕ) → m ≡ write at (take k (replicate n o)) l → k < n → at + k < length m
-    → set m (at + k) o ≡ write at (take (k + 1) (replicate n o)) l
-owner_turn at o n l m k e h g =
-    let long : length (replicate n o) ≡ n = length-replicate n o in
-    ap (set m (at + k)) (sym (get_or-replicate n k o 0 h)) ∙ word_turn at (replicate n o) l m k e (omega (arith, long)) g
-
-pub owner_end : (at o n : ℕ) (l m : List ℕ) (k : ℕ) → m ≡ write at (take k (replicate n o)) l → n ≤ k → m ≡ write at (replicate n o) l
-owner_end at o n l m k e h =
-    let long : length (replicate n o) ≡ n = length-replicate n o in
-    word_end at (replicate n o) l m k e (omega (arith, long))
+use Rattle.file_writer.proofs.WriteLaws.{write_write, write_none, Put, put_put, put_filled}
 
 -- a number of four bytes
 abbrev Four : ℕ → ℕ → List ℕ → List ℕ → ℕ → Type 0
@@ -57,18 +43,35 @@ two_more : (to v : ℕ) (b m : List ℕ) → write (to + 2) b (write to (two v) 
 unfolding two
 two_more to v b m = write_write to (two v) b m
 
-module _ (f : ℕ → ℕ) (a : ℕ) where
-  -- the outputs from number o on
-  abbrev from_out : ℕ → ℕ → List ℕ
-  from_out n o = output_bytes (map f (count_up (a + o) (n - o)))
+-- the outputs from wire w on: what is left to write
+pub record Outs (f : ℕ → ℕ) (a n at : ℕ) (l : List ℕ) (w to : ℕ) (m : List ℕ) : Type 0 where
+  pub same : write to (output_bytes (map f (count_up w ((a + n) - w)))) m ≡ write at (output_bytes (map f (count_up a n))) l
+  pub place : to + 2 * a ≡ at + 2 * w
 
-  pub outs_turn : (n o to v : ℕ) (m l : List ℕ) → o < n → v ≡ f (a + o) → l ≡ write to (two v) m → write (to + 2) (from_out n (o + 1)) l ≡ write to (from_out n o) m
-  unfolding output_bytes
-  outs_turn n o to v m l h e p = rw (p, e, count_one a n o h) (two_more to (f (a + o)) (from_out n (o + 1)) m)
+module _ (f : ℕ → ℕ) (a n at : ℕ) (l : List ℕ) where
+  pub outs_start : Outs f a n at l a at l
+  outs_start = let k : (a + n) - a ≡ n = omega arith in record { same = rw k; place = refl }
 
-  pub outs_end : (n o to : ℕ) (m : List ℕ) → n ≤ o → write to (from_out n o) m ≡ m
-  unfolding output_bytes
-  outs_end n o to m h = rw (count_none a n o h) (write_none to m)
+  module _ (w to : ℕ) (m : List ℕ) (s : Outs f a n at l w to m) where
+    next_wire : w < a + n → count_up w ((a + n) - w) ≡ w ∷ count_up (w + 1) ((a + n) - (w + 1))
+    unfolding count_up
+    next_wire h =
+        let k : (a + n) - w ≡ suc ((a + n) - (w + 1)) = omega arith in
+        let z : w + 1 ≡ suc w = omega arith in
+        rw (k, z)
 
-  pub outs_start : (n to : ℕ) (m : List ℕ) → write to (from_out n 0) m ≡ write to (output_bytes (map f (count_up a n))) m
-  outs_start n to m = ap (λ (ws : List ℕ). write to (output_bytes (map f ws)) m) (count_start a n)
+    pub outs_turn : (r : ℕ) (m2 : List ℕ) → w < a + n → m2 ≡ write to (two (f w)) m → r ≡ to + 2 → Outs f a n at l (w + 1) r m2
+    unfolding output_bytes
+    outs_turn r m2 h p q =
+        let u = s.place in
+        record {
+          same = rw (q, p, two_more to (f w) (output_bytes (map f (count_up (w + 1) ((a + n) - (w + 1))))) m) (rw (next_wire h) at s.same);
+          place = omega (arith, q, u);
+        }
+
+    pub outs_end : w ≡ a + n → (m ≡ write at (output_bytes (map f (count_up a n))) l) × (to ≡ at + 2 * n)
+    unfolding output_bytes count_up
+    outs_end h =
+        let k : (a + n) - w ≡ 0 = omega (arith, h) in
+        let u = s.place in
+        (sym (write_none to m) ∙ (rw k at s.same), omega (arith, u, h))

@@ -21,7 +21,7 @@ use Rattle.bristol_wires.specs.declared.Text.{Text}
 use Rattle.file_writer.specs.Mirror.{write}
 use Rattle.file_writer.proofs.WriteLaws.{Put, put_put, filled_put, put_filled}
 use Rattle.bristol_file.specs.Mirror.{listed, widths_in, Widths, behind_first, widths_of, Seated, outs_of, file_by}
-use Rattle.bristol_file.proofs.OwnerLaws.{width_next, widths_rest}
+use Rattle.bristol_file.proofs.OwnerLaws.{Width, width}
 
 module _ (t : List ℕ) (seat : ℕ) (owners : List ℕ) (x : Text) (w : Word) (next : Next t seat w) (s : Seated t seat owners x) where
   all_in : widths_in t seat ≡ length owners ∷ widths_of t seat
@@ -34,12 +34,15 @@ module _ (t : List ℕ) (seat : ℕ) (owners : List ℕ) (x : Text) (w : Word) (
       let m = s.many in
       record { all = s.all ∙ ap are (sym all_in); many = omega (arith, long, m) }
 
+  first : Width t seat w (length owners)
+  first = width t seat w next (length owners) whole
+
   pub seat_widths : Widths t w.end (length owners)
-  seat_widths = widths_rest t seat w next (length owners) whole
+  seat_widths = first.rest
 
   pub seat_same : widths_in t w.end ≡ widths_of t seat
   unfolding behind_first
-  seat_same = sym (ap behind_first (width_next t seat w next (length owners) whole))
+  seat_same = sym (ap behind_first first.first)
 
   pub seat_total : total (widths_in t w.end) ≡ x.ins
   seat_total = ap total seat_same ∙ s.sum

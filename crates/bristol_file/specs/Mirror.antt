@@ -2,9 +2,10 @@
 --     widths_in        the numbers that stand on a line from a place on
 --     Widths           that these are so many numbers and nothing else
 --     Seated           that the inputs' line begins at a place: how many values there are, then their widths, with a sum of I
+--     Few              the limits
 --     outs_of          our numbers of the highest wires
 --     file_by          the file
-use Rattle.std.specs.Prelude.{◌≡◌, List, [], ◌∷◌, ◌++◌, map, ℕ, ◌*◌, ◌-◌, length, take}
+use Rattle.std.specs.Prelude.{◌≡◌, List, [], ◌∷◌, ◌++◌, map, ℕ, ◌*◌, ◌-◌, ◌≤◌, length, take}
 use Rattle.theory_files.specs.Written.{header_bytes, output_bytes}
 use Rattle.bristol_text.specs.Lines.{Numbers, are, broken, numbers, total}
 use Rattle.bristol_text.specs.Heard.{count_up}
@@ -36,6 +37,13 @@ pub record Seated (t : List ℕ) (seat : ℕ) (owners : List ℕ) (x : Text) : T
   pub all : numbers (words_at t seat) ≡ are (length owners ∷ widths_of t seat)
   pub many : length (widths_of t seat) ≡ length owners
   pub sum : total (widths_of t seat) ≡ x.ins
+
+-- 01's limits, and outputs among the wires
+pub record Few (x : Text) : Type 0 where
+  pub ins : x.ins ≤ 1024
+  pub gates : x.made ≤ 3072
+  pub outs : x.outs ≤ 256
+  pub highest : x.outs ≤ x.wires
 
 abbrev pub outs_of : List ℕ → Text → List ℕ
 outs_of m t = map (ours_of m t.ins) (count_up (t.wires - t.outs) t.outs)

@@ -1,19 +1,16 @@
 // The circuit file of a text that nothing is wrong with, written into the room: header, owners, gates, outputs.
 #![tactic(auto)]
 
-ghost use Rattle.std.specs.Prelude.{◌≡◌, map, ◌+◌, ◌*◌, ◌-◌, ◌≤◌, length, take, replicate};
+ghost use Rattle.std.specs.Prelude.{◌≡◌, ◌+◌, ◌*◌, ◌≤◌, length, replicate};
 ghost use Rattle.theory_sharing.specs.Store.{fill};
 ghost use Rattle.theory_calls.specs.File.{size};
 ghost use Rattle.theory_files.specs.Written.{header_bytes, output_bytes};
 ghost use Rattle.bristol_text.specs.Lines.{total};
-ghost use Rattle.bristol_text.specs.Heard.{count_up};
 ghost use Rattle.bristol_text.specs.Renamed.{spread};
-ghost use Rattle.bristol_words.specs.Mirror.{words_at};
-ghost use Rattle.bristol_wires.specs.Mirror.{ours_of};
 ghost use Rattle.file_writer.specs.Mirror.{write};
-ghost use Rattle.bristol_file.specs.Mirror.{outs_of, Widths, widths_in, Seated, file_by};
+ghost use Rattle.bristol_file.specs.Mirror.{outs_of, Few, Widths, widths_in, Seated, file_by};
 
-use bristol_wires::Text;
+use bristol_wires::Numbering;
 
 // 01's eight fields.
 fn put_header(room: &mut [u8], i: u32, g: u32, o: u32) -> usize
@@ -34,55 +31,46 @@ fn put_header(room: &mut [u8], i: u32, g: u32, o: u32) -> usize
 }
 
 // One owner, once for each wire of his value.
+#[tactic(auto, unfolding(file_writer::specs::Mirror::write))]
 fn put_owner(room: &mut [u8], at: usize, owner: u8, n: usize) -> usize
     requires { at + n ≤ length room.old }
     ensures room_after { room.new ≡ write at (replicate n owner) room.old }
     ensures value { result ≡ at + n }
 {
-    let mut k: usize = 0;
-    while k < n {
-        room[at + k] = owner;
-        k += 1;
-    }
-    at + n
+    let end = at + n;
+    room[at..end].fill(owner);
+    end
 }
 
 // The owners of all values, whose widths stand in the text from a place on.
 fn put_owners(room: &mut [u8], at: usize, text: &[u8], seat: usize, owners: &[u8]) -> usize
-    requires seat_in_bounds { seat ≤ length text.now }
+    requires seat_inside { seat ≤ length text.now }
     requires widths { Widths text.now seat (length owners.now) }
-    requires seat_in_bounds_2 { at + total (widths_in text.now seat) ≤ length room.old }
+    requires room_long { at + total (widths_in text.now seat) ≤ length room.old }
     ensures room_after { room.new ≡ write at (spread owners.now (widths_in text.now seat)) room.old }
     ensures value { result ≡ at + total (widths_in text.now seat) }
 {
     let mut to = at;
-    let mut e = seat;
-    let mut v: usize = 0;
-    while v < owners.len() {
-        let w = bristol_words::next_word(text, e);
-        let b = owners[v];
-        let r = put_owner(room, to, b, w.value as usize);
-        to = r;
-        e = w.end;
-        v += 1;
+    let mut seat = seat;
+    for owner in owners {
+        let width = bristol_words::next_word(text, seat);
+        to = put_owner(room, to, *owner, width.number.unwrap() as usize);
+        seat = width.end;
     }
     to
 }
 
 // "outputs the highest", by our numbers.
-fn put_outputs(room: &mut [u8], at: usize, map: &[u16], t: Text) -> usize
-    requires { (t.outs ≤ t.wires) × (at + 2 * t.outs ≤ length room.old) }
-    ensures room_after { room.new ≡ write at (output_bytes (outs_of map.now t)) room.old }
-    ensures value { result ≡ at + 2 * t.outs }
+fn put_outputs(room: &mut [u8], at: usize, numbering: &Numbering) -> usize
+    requires few { numbering.now.text.outs ≤ numbering.now.text.wires }
+    requires room_long { at + 2 * numbering.now.text.outs ≤ length room.old }
+    ensures room_after { room.new ≡ write at (output_bytes (outs_of numbering.now.map numbering.now.text)) room.old }
+    ensures value { result ≡ at + 2 * numbering.now.text.outs }
 {
-    let first = t.wires - t.outs;
+    let wires = numbering.text.wires;
     let mut to = at;
-    let mut o: u32 = 0;
-    while o < t.outs {
-        let w = bristol_wires::ours(map, t.ins, first + o);
-        let r = file_writer::put_u16(room, to, w);
-        to = r;
-        o += 1;
+    for w in wires - numbering.text.outs..wires {
+        to = file_writer::put_u16(room, to, numbering.ours(w));
     }
     to
 }
@@ -93,22 +81,21 @@ pub fn put_file(
     text: &[u8],
     seat: usize,
     owners: &[u8],
-    t: Text,
-    map: &[u16],
-    gates: &[u8],
+    numbering: &Numbering,
 ) -> usize
-    requires seat_in_bounds { seat ≤ length text.now }
-    requires ins_bound { (t.ins ≤ 1024) × (t.made ≤ 3072) × (t.outs ≤ 256) × (t.outs ≤ t.wires) }
-    requires room_len { (length room.old ≡ 20000) × (length gates.now ≡ 18432) }
-    requires seated { Seated text.now seat owners.now t }
+    requires seat_inside { seat ≤ length text.now }
+    requires few { Few numbering.now.text }
+    requires room_long { length room.old ≡ 20000 }
+    requires seated { Seated text.now seat owners.now numbering.now.text }
     ensures room_after { room.new
-        ≡ fill room.old (file_by text.now seat owners.now t map.now gates.now) }
-    ensures value { result ≡ size t.ins t.made t.outs }
+        ≡ fill room.old (file_by text.now seat owners.now numbering.now.text numbering.now.map numbering.now.gates) }
+    ensures value { result ≡ size numbering.now.text.ins numbering.now.text.made numbering.now.text.outs }
 {
+    let t = numbering.text;
     let a = put_header(room, t.ins, t.made, t.outs);
-    let w = bristol_words::next_word(text, seat);
-    let b = put_owners(room, a, text, w.end, owners);
+    let values = bristol_words::next_word(text, seat);
+    let b = put_owners(room, a, text, values.end, owners);
     let n = 6 * t.made as usize;
-    let c = file_writer::put_bytes(room, b, &gates[..n]);
-    put_outputs(room, c, map, t)
+    let c = file_writer::put_bytes(room, b, &numbering.gates[..n]);
+    put_outputs(room, c, numbering)
 }

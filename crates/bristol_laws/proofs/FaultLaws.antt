@@ -17,15 +17,19 @@ use Rattle.bristol_text.specs.Words.{words}
 use Rattle.bristol_text.specs.Lines.{Line, blank, bad, counts, widths, other_word, xor_gate, and_gate, inv_gate, eqw_gate, total}
 use Rattle.bristol_text.specs.Heard.{Heard, says, written, two_fault, one_fault, within, line_fault, all_written, complete}
 use Rattle.bristol_text.specs.Renamed.{renamed}
-use Rattle.bristol_text.specs.Told.{told}
+use Rattle.bristol_text.specs.Told.{told, header_lines}
 use Rattle.bristol_wires.specs.declared.Text.{Text}
-use Rattle.bristol_wires.specs.Mirror.{is_written, two_fault_of, one_fault_of, fault_of}
+use Rattle.bristol_wires.specs.Mirror.{is_written, two_fault_of, fault_of}
 use Rattle.bristol_wires.specs.Pass.{says_by}
 use Rattle.bristol_laws.specs.Matches.{capped, all_entered, Matches}
 
 not_not : (b : Bool) → not (not b) ≡ b
 not_not true = refl
 not_not false = refl
+
+twice : (b : Bool) → (b && b) ≡ b
+twice true = refl
+twice false = refl
 
 -- none left: as many as said
 left_fault : (n s k : ℕ) → cond (eqb (s - n) 0) 15 k ≡ cond (ltb n s) k 15
@@ -69,9 +73,9 @@ module _ (h : Heard) (t : Text) (ws : List (List ℕ)) (m g : List ℕ) (q : Mat
   unfolding two_fault_of
   two_same x y z = rw (is_known x, is_known y, q.marks z)
 
-  one_same : (x z : ℕ) → one_fault_of m t.ins x z ≡ one_fault h x z
-  unfolding one_fault_of
-  one_same x z = rw (is_known x, q.marks z)
+  one_same : (x z : ℕ) → two_fault_of m t.ins x x z ≡ one_fault h x z
+  unfolding two_fault_of
+  one_same x z = rw (is_known x, q.marks z, twice (written h x))
 
   pub same_fault : (l : Line) → fault_of t m (told l) ≡ line_fault h l
   unfolding fault_of told line_fault
@@ -85,7 +89,7 @@ module _ (h : Heard) (t : Text) (ws : List (List ℕ)) (m g : List ℕ) (q : Mat
   same_fault (inv_gate x z) = within_same _ _ (one_same x z)
   same_fault (eqw_gate x z) = within_same _ _ (one_same x z)
 
-  pub complete_is : (eqb t.stage 3 && eqb t.left 0) ≡ complete h
+  pub complete_is : (eqb (header_lines t.stage) 3 && eqb t.left 0) ≡ complete h
   complete_is = rw (q.stage, q.left, left_none (length h.gates) h.said q.few)
 
   pub all_written_is : (vs : List ℕ) → all_entered m t.ins vs ≡ all_written h vs

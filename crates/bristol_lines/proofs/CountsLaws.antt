@@ -1,62 +1,59 @@
 -- The line of counts, by the next two words.
---     counts_said
+--     counted, counts_said
 -- Assumes nothing.
 use mathlib.Core.Path.{◌≡◌, refl}
-use mathlib.Core.Bool.{Bool, true, false, cond, ◌&&◌}
+use mathlib.Core.Bool.{Bool, true, false, not, cond, ◌||◌}
 use mathlib.Core.List.{List, []}
 use Prim.Native.Nat.{ℕ}
-use lib.Dec.{leb, eqb}
-use Rattle.bristol_text.specs.Words.{Number, is, none}
+use lib.Dec.{leb, ltb, eqb}
+use borrow.Author.Tests.{le-ltb, lt-ltb, leb-true, leb-false}
+use Rattle.std.proofs.Common.{Option, None, Some}
 use Rattle.bristol_text.specs.Lines.{bad, counts, Numbers, are, broken, with_number, numbers, counts_line}
 use Rattle.bristol_words.specs.declared.Word.{Word}
+use Rattle.bristol_words.specs.Mirror.{told as num}
 use Rattle.bristol_text.specs.declared.Says.{Says}
-use Rattle.bristol_text.specs.declared.Says.TheVariants.{Bad, Counts}
+use Rattle.bristol_text.specs.declared.Says.TheVariants.{Counts}
 use Rattle.bristol_text.specs.Told.{told}
 use Rattle.bristol_lines.specs.Mirror.{counts_from}
 use Rattle.bristol_lines.proofs.SeenLaws.{Seen, gone, seen}
 
-abbrev num : Bool → ℕ → Number
-num g v = cond g (is v) none
+-- of two words, and whether nothing is behind them
+abbrev pub counted : Option ℕ → Option ℕ → Bool → Option Says
+counted None w e = None
+counted (Some g) None e = None
+counted (Some g) (Some w) e = cond (not e || ltb 8192 w) None (Some (Counts g w))
 
-abbrev says : Bool → ℕ → Numbers → Says
-says f x ns = told (counts_line (with_number (num f x) ns))
+abbrev says : Option ℕ → Numbers → Option Says
+says f ns = told (counts_line (with_number (num f) ns))
 
 -- one word: nothing behind the first
-one_bad : (f : Bool) (x : ℕ) → says f x (are []) ≡ Bad
+one_bad : (f : Option ℕ) (e : Bool) → says f (are []) ≡ counted f None e
 unfolding told counts_line with_number
-one_bad true x = refl
-one_bad false x = refl
+one_bad (Some x) e = refl
+one_bad None e = refl
 
-two_said : (f g : Bool) (x y : ℕ) → says f x (with_number (num g y) (are [])) ≡ cond (((f && g) && true) && leb y 8192) (Counts x y) Bad
+two_said : (f g : Option ℕ) → says f (with_number (num g) (are [])) ≡ counted f g true
 unfolding told counts_line with_number
-two_said true true x y = go (leb y 8192)
+two_said (Some x) (Some y) = go (leb y 8192) refl
   where
-    go : (p : Bool) → told (cond p (counts x y) bad) ≡ cond p (Counts x y) Bad
-    go true = refl
-    go false = refl
-two_said true false x y = refl
-two_said false g x y = refl
+    go : (p : Bool) → leb y 8192 ≡ p → told (cond p (counts x y) bad) ≡ cond (ltb 8192 y) None (Some (Counts x y))
+    go true e = rw (le-ltb 8192 y (leb-true _ _ e))
+    go false e = rw (lt-ltb 8192 y (leb-false _ _ e))
+two_said (Some x) None = refl
+two_said None (Some y) = refl
+two_said None None = refl
 
-more_bad : (f g h : Bool) (x y z : ℕ) (ns : Numbers) → says f x (with_number (num g y) (with_number (num h z) ns)) ≡ Bad
+more_bad : (f g h : Option ℕ) (ns : Numbers) → says f (with_number (num g) (with_number (num h) ns)) ≡ counted f g false
 unfolding told counts_line with_number
-more_bad true true true x y z (are xs) = refl
-more_bad true true true x y z broken = refl
-more_bad true true false x y z ns = refl
-more_bad true false h x y z ns = refl
-more_bad false g h x y z ns = refl
-
-falls : (f g p : Bool) (a b : Says) → cond (((f && g) && false) && p) a b ≡ b
-falls true true p a b = refl
-falls true false p a b = refl
-falls false g p a b = refl
-
-falls_first : (f q p : Bool) (a b : Says) → cond (((f && false) && q) && p) a b ≡ b
-falls_first true q p a b = refl
-falls_first false q p a b = refl
+more_bad (Some x) (Some y) (Some z) (are xs) = refl
+more_bad (Some x) (Some y) (Some z) broken = refl
+more_bad (Some x) (Some y) None ns = refl
+more_bad (Some x) None h ns = refl
+more_bad None g h ns = refl
 
 pub counts_said : (ws vs us : List (List ℕ)) (w v : List ℕ) (f a b : Word) → Seen ws w vs a → Seen vs v us b
-    → counts_from f ws ≡ cond (((f.good && a.good) && eqb b.start b.end) && leb a.value 8192) (Counts f.value a.value) Bad
+    → counts_from f ws ≡ counted f.number a.number (eqb b.start b.end)
 unfolding numbers
-counts_said ws vs us w v f a b (gone e _ g) n = rw (e, g, falls_first) (one_bad f.good f.value)
-counts_said ws vs us w v f a b (seen e _ g) (gone d h _) = rw (e, d, g, h) (two_said f.good a.good f.value a.value)
-counts_said ws vs us w v f a b (seen e _ g) (seen d h m) = rw (e, d, g, m, h, falls) (more_bad f.good a.good b.good f.value a.value b.value (numbers us))
+counts_said ws vs us w v f a b (gone e _ g) n = rw (e, g) (one_bad f.number _)
+counts_said ws vs us w v f a b (seen e _ g) (gone d h _) = rw (e, d, g, h) (two_said f.number a.number)
+counts_said ws vs us w v f a b (seen e _ g) (seen d h m) = rw (e, d, g, m, h) (more_bad f.number a.number b.number (numbers us))

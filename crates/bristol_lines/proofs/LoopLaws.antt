@@ -1,66 +1,83 @@
 -- A turn of the loops over widths and over wires: what the words still to come make is what all of them do.
---     sum_start, sum_stop, sum_go, sum_fits, sum_done    widths
---     keep_start, keep_stop, keep_go, keep_done          wires
---     untrue                                             a sum that is not good is not good
+--     start, turn                                  before the first turn, and behind one
+--     Sums, sums_start, sums_on, sums_stop, sums_end      widths
+--     Keeps, keeps_start, keeps_on, keeps_stop, keeps_end    wires
 -- Assumes nothing.
 use mathlib.Core.Path.{◌≡◌, refl, sym, ◌∙◌}
-use mathlib.Core.Bool.{Bool, true, false, not, ◌||◌}
 use mathlib.Core.List.{List}
 use Prim.Native.Nat.{ℕ, suc, ◌+◌, ◌-◌, ◌≤◌, ◌<◌}
 use native.Mathlib.Omega.{arith}
-use lib.Dec.{leb, ltb}
-use borrow.Author.Tests.{ltb-false}
+use lib.ListN.{length}
+use Rattle.std.proofs.Common.{Option, None, Some}
 use Rattle.bristol_words.specs.declared.Word.{Word}
 use Rattle.bristol_words.specs.Mirror.{words_at, Next}
-use Rattle.bristol_lines.specs.Mirror.{Left, left, none_left, sums, Kept, kept, none_kept, keeps}
+use Rattle.bristol_lines.specs.declared.Sum.{Sum}
+use Rattle.bristol_lines.specs.declared.Wires.{Wires}
+use Rattle.bristol_lines.specs.Mirror.{Behind, sums, Summed, keeps, WiresRead}
 use Rattle.bristol_lines.proofs.SeenLaws.{seen_next}
-use Rattle.bristol_lines.proofs.WidthsLaws.{sums_stop, sums_go}
-use Rattle.bristol_lines.proofs.WiresLaws.{keeps_stop, keeps_go}
+use Rattle.bristol_lines.proofs.WidthsLaws.{sums_none, sums_large, sums_go}
+use Rattle.bristol_lines.proofs.WiresLaws.{keeps_none, keeps_large, keeps_go}
 
-pub untrue : false ≡ true → ⊥
-untrue h = let z : ◌≡◌ {A = ℕ} 0 1 = cc in omega arith
+-- k of n widths are added, with the sum s, and the next stands behind e
+pub record Sums (t : List ℕ) (at n W k s e : ℕ) : Type 0 where
+  pub few : s ≤ W
+  pub place : Behind t at e
+  pub same : sums W (n - k) s (words_at t e) ≡ sums W n 0 (words_at t at)
 
--- before the first turn
-pub sum_start : (W n s : ℕ) (ws : List (List ℕ)) → sums W (n - 0) s ws ≡ sums W n s ws
-sum_start W n s ws = let z : n - 0 ≡ n = omega arith in rw z
+pub sums_start : (t : List ℕ) (at n W : ℕ) → at ≤ length t → Sums t at n W 0 0 at
+sums_start t at n W h = let z : n - 0 ≡ n = omega arith in record { few = omega arith; place = record { inside = h; line = refl }; same = rw z }
 
-pub keep_start : (W n x y z : ℕ) (ws : List (List ℕ)) → keeps W (n - 0) x y z ws ≡ keeps W n x y z ws
-keep_start W n x y z ws = let d : n - 0 ≡ n = omega arith in rw d
+-- k of n wires are read, the last three of them x, y, z, and the next stands behind e
+pub record Keeps (t : List ℕ) (at n W k : ℕ) (r : Wires) : Type 0 where
+  pub place : Behind t at r.end
+  pub same : keeps W (n - k) r.x r.y r.z (words_at t r.end) ≡ keeps W n 0 0 0 (words_at t at)
 
-pub sum_fits : (W s : ℕ) (r : Word) → (not r.good || ltb W (s + r.value)) ≡ false → s + r.value ≤ W
-sum_fits W s r = go r.good (ltb W (s + r.value)) refl
-  where
-    go : (g p : Bool) → ltb W (s + r.value) ≡ p → (not g || p) ≡ false → s + r.value ≤ W
-    go g false e h = ltb-false _ _ e
-    go true true e h = absurd (let z : ◌≡◌ {A = ℕ} 0 1 = cc in omega arith)
-    go false true e h = absurd (let z : ◌≡◌ {A = ℕ} 0 1 = cc in omega arith)
+pub keeps_start : (t : List ℕ) (at n W : ℕ) → at ≤ length t → Keeps t at n W 0 (record { x = 0; y = 0; z = 0; end = at })
+keeps_start t at n W h = let z : n - 0 ≡ n = omega arith in record { place = record { inside = h; line = refl }; same = rw z }
 
-module _ (t : List ℕ) (W n k e s : ℕ) (all : Left) (h : sums W (n - k) s (words_at t e) ≡ all) where
-  pub sum_done : n ≤ k → left s (words_at t e) ≡ all
+-- a word behind a place is behind the first
+behind_word : (t : List ℕ) (at e : ℕ) (r : Word) → Behind t at e → Next t e r → Behind t at r.end
+behind_word t at e r b m = record { inside = m.inside; line = m.line ∙ b.line }
+
+module _ (t : List ℕ) (at n W k s e : ℕ) (h : Sums t at n W k s e) where
+  pub sums_end : n ≤ k → Summed t at n W (Some (record { sum = s; end = e }))
   unfolding sums
-  sum_done l = let z : n - k ≡ 0 = omega arith in rw z at h
+  sums_end l = let z : n - k ≡ 0 = omega arith in record { same = rw z at h.same; place = h.place }
 
   module _ (r : Word) (l : k < n) (m : Next t e r) where
     step : n - k ≡ suc (n - (k + 1))
     step = omega arith
 
-    pub sum_stop : (not r.good || ltb W (s + r.value)) ≡ true → none_left ≡ all
-    sum_stop q = sym (sums_stop W (n - (k + 1)) s _ _ _ r (seen_next t e r m) q) ∙ (rw step at h)
+    pub sums_no : (o : Option Sum) → o ≡ None → r.number ≡ None → Summed t at n W o
+    sums_no o i q = rw i (record { same = sym (sums_none W (n - (k + 1)) s _ _ _ r (seen_next t e r m) q) ∙ (rw step at h.same); place = tt })
 
-    pub sum_go : (not r.good || ltb W (s + r.value)) ≡ false → sums W (n - (k + 1)) (s + r.value) (words_at t r.end) ≡ all
-    sum_go q = sym (sums_go W (n - (k + 1)) s _ _ _ r (seen_next t e r m) q) ∙ (rw step at h)
+    pub sums_over : (o : Option Sum) → o ≡ None → (x : ℕ) → r.number ≡ Some x → W < s + x → Summed t at n W o
+    sums_over o i x q g = rw i (record { same = sym (sums_large W (n - (k + 1)) s _ _ _ r (seen_next t e r m) x q g) ∙ (rw step at h.same); place = tt })
 
-module _ (t : List ℕ) (W n k e x y z : ℕ) (all : Kept) (h : keeps W (n - k) x y z (words_at t e) ≡ all) where
-  pub keep_done : n ≤ k → kept x y z (words_at t e) ≡ all
+    pub sums_on : (x : ℕ) → r.number ≡ Some x → s + x ≤ W → Sums t at n W (k + 1) (s + x) r.end
+    sums_on x q g = record {
+      few = g;
+      place = behind_word t at e r h.place m;
+      same = sym (sums_go W (n - (k + 1)) s _ _ _ r (seen_next t e r m) x q g) ∙ (rw step at h.same);
+    }
+
+module _ (t : List ℕ) (at n W k : ℕ) (w : Wires) (h : Keeps t at n W k w) where
+  pub keeps_end : n ≤ k → WiresRead t at n W (Some w)
   unfolding keeps
-  keep_done l = let d : n - k ≡ 0 = omega arith in rw d at h
+  keeps_end l = let z : n - k ≡ 0 = omega arith in record { same = rw z at h.same; place = h.place }
 
-  module _ (r : Word) (l : k < n) (m : Next t e r) where
+  module _ (r : Word) (l : k < n) (m : Next t w.end r) where
     next : n - k ≡ suc (n - (k + 1))
     next = omega arith
 
-    pub keep_stop : (not r.good || leb W r.value) ≡ true → none_kept ≡ all
-    keep_stop q = sym (keeps_stop W (n - (k + 1)) x y z _ _ _ r (seen_next t e r m) q) ∙ (rw next at h)
+    pub keeps_no : (o : Option Wires) → o ≡ None → r.number ≡ None → WiresRead t at n W o
+    keeps_no o i q = rw i (record { same = sym (keeps_none W (n - (k + 1)) w.x w.y w.z _ _ _ r (seen_next t w.end r m) q) ∙ (rw next at h.same); place = tt })
 
-    pub keep_go : (not r.good || leb W r.value) ≡ false → keeps W (n - (k + 1)) y z r.value (words_at t r.end) ≡ all
-    keep_go q = sym (keeps_go W (n - (k + 1)) x y z _ _ _ r (seen_next t e r m) q) ∙ (rw next at h)
+    pub keeps_over : (v : ℕ) → r.number ≡ Some v → W ≤ v → WiresRead t at n W None
+    keeps_over v q g = record { same = sym (keeps_large W (n - (k + 1)) w.x w.y w.z _ _ _ r (seen_next t w.end r m) v q g) ∙ (rw next at h.same); place = tt }
+
+    pub keeps_on : (v : ℕ) → r.number ≡ Some v → v < W → Keeps t at n W (k + 1) (record { x = w.y; y = w.z; z = v; end = r.end })
+    keeps_on v q g = record {
+      place = behind_word t at w.end r h.place m;
+      same = sym (keeps_go W (n - (k + 1)) w.x w.y w.z _ _ _ r (seen_next t w.end r m) v q g) ∙ (rw next at h.same);
+    }

@@ -1,65 +1,62 @@
 -- The line of widths, by the sums.
---     sums_stop, sums_go    a width more: it is no number or the sum is too large; else it is added
+--     sums_none, sums_large, sums_go    a width more: it is no number or the sum is too large; else it is added
 --     widths_said           the line by the sums, behind a first word that is a number
 --     widths_none           behind one that is none
 -- Assumes nothing.
 use mathlib.Core.Path.{◌≡◌, refl, sym, ap, ◌∙◌}
-use mathlib.Core.Bool.{Bool, true, false, not, cond, ◌&&◌, ◌||◌}
+use mathlib.Core.Bool.{Bool, true, false, cond, ◌&&◌}
 use mathlib.Core.List.{List, [], ◌∷◌}
-use Prim.Native.Nat.{ℕ, zero, suc, ◌+◌, ◌≤◌}
+use Prim.Native.Nat.{ℕ, zero, suc, ◌+◌, ◌≤◌, ◌<◌}
 use native.Mathlib.Omega.{arith}
 use lib.ListN.{length}
-use lib.Dec.{leb, ltb, eqb, eqb-suc-suc}
-use borrow.Author.Tests.{le-leb, lt-leb, leb-true, leb-false, ltb-true, ltb-false, eqb-true, ne_eqb}
+use lib.Dec.{leb, eqb, eqb-suc-suc}
+use borrow.Author.Tests.{le-leb, lt-leb, leb-true, leb-false, eqb-true, ne_eqb}
+use Rattle.std.proofs.Common.{Option, None, Some}
 use Rattle.bristol_text.specs.Words.{Number, is, none, number}
 use Rattle.bristol_text.specs.Lines.{bad, widths, Numbers, are, broken, with_number, numbers, widths_line, total}
 use Rattle.bristol_words.specs.declared.Word.{Word}
+use Rattle.bristol_words.specs.Mirror.{told_number}
 use Rattle.bristol_text.specs.declared.Says.{Says}
-use Rattle.bristol_text.specs.declared.Says.TheVariants.{Bad, Widths}
+use Rattle.bristol_text.specs.declared.Says.TheVariants.{Widths}
 use Rattle.bristol_text.specs.Told.{told}
 use Rattle.bristol_lines.specs.Mirror.{widths_from, Left, left, none_left, sum_number, sums}
 use Rattle.bristol_lines.proofs.SeenLaws.{Seen, gone, seen}
 
-module _ (W n s : ℕ) (ws vs : List (List ℕ)) (w : List ℕ) (r : Word) where
-  sums_next : Seen ws w vs r → sums W (suc n) s ws ≡ cond r.good (cond (leb (s + r.value) W) (sums W n (s + r.value) vs) none_left) none_left
+module _ (W n s : ℕ) (ws vs : List (List ℕ)) (w : List ℕ) (r : Word) (h : Seen ws w vs r) where
+  sums_next : sums W (suc n) s ws ≡ sum_number W s (told_number r) (λ t. sums W n t vs)
   unfolding sums sum_number
-  sums_next (gone e _ g) = rw (e, g)
-  sums_next (seen e _ h) = rw (e, h) (go r.good)
+  sums_next = go h
     where
-      go : (g : Bool) → sum_number W s (cond g (is r.value) none) (λ t. sums W n t vs) ≡ cond g (cond (leb (s + r.value) W) (sums W n (s + r.value) vs) none_left) none_left
-      go true = refl
-      go false = refl
+      go : Seen ws w vs r → sums W (suc n) s ws ≡ sum_number W s (told_number r) (λ t. sums W n t vs)
+      go (gone e _ g) = rw (e, g)
+      go (seen e _ g) = rw (e, g)
 
-  pub sums_stop : Seen ws w vs r → (not r.good || ltb W (s + r.value)) ≡ true → sums W (suc n) s ws ≡ none_left
-  sums_stop h q = sums_next h ∙ go r.good (ltb W (s + r.value)) refl q
-    where
-      go : (g p : Bool) → ltb W (s + r.value) ≡ p → (not g || p) ≡ true → cond g (cond (leb (s + r.value) W) (sums W n (s + r.value) vs) none_left) none_left ≡ none_left
-      go false p e q = refl
-      go true true e q = rw (lt-leb (s + r.value) W (ltb-true _ _ e))
-      go true false e q = cc
+  pub sums_none : r.number ≡ None → sums W (suc n) s ws ≡ none_left
+  unfolding sum_number
+  sums_none e = sums_next ∙ rw e
 
-  pub sums_go : Seen ws w vs r → (not r.good || ltb W (s + r.value)) ≡ false → sums W (suc n) s ws ≡ sums W n (s + r.value) vs
-  sums_go h q = sums_next h ∙ go r.good (ltb W (s + r.value)) refl q
-    where
-      go : (g p : Bool) → ltb W (s + r.value) ≡ p → (not g || p) ≡ false → cond g (cond (leb (s + r.value) W) (sums W n (s + r.value) vs) none_left) none_left ≡ sums W n (s + r.value) vs
-      go true false e q = rw (le-leb (s + r.value) W (ltb-false _ _ e))
-      go true true e q = cc
-      go false p e q = cc
+  pub sums_large : (x : ℕ) → r.number ≡ Some x → W < s + x → sums W (suc n) s ws ≡ none_left
+  unfolding sum_number
+  sums_large x e l = sums_next ∙ rw (e, lt-leb (s + x) W l)
+
+  pub sums_go : (x : ℕ) → r.number ≡ Some x → s + x ≤ W → sums W (suc n) s ws ≡ sums W n (s + x) vs
+  unfolding sum_number
+  sums_go x e l = sums_next ∙ rw (e, le-leb (s + x) W l)
 
 -- what is said where v widths were announced
-unfoldable pub sum_says : ℕ → Left → Says
-sum_says v none_left = Bad
-sum_says v (left s []) = Widths v s
-sum_says v (left s (w ∷ ws)) = Bad
+unfoldable pub sum_says : ℕ → Left → Option Says
+sum_says v none_left = None
+sum_says v (left s []) = Some (Widths v s)
+sum_says v (left s (w ∷ ws)) = None
 
 -- n widths more, with the sum s so far
-unfoldable more_says : ℕ → ℕ → ℕ → ℕ → Numbers → Says
-more_says W v n s broken = Bad
-more_says W v n s (are xs) = cond (eqb (length xs) n && leb (s + total xs) W) (Widths v (s + total xs)) Bad
+unfoldable more_says : ℕ → ℕ → ℕ → ℕ → Numbers → Option Says
+more_says W v n s broken = None
+more_says W v n s (are xs) = cond (eqb (length xs) n && leb (s + total xs) W) (Some (Widths v (s + total xs))) None
 
 module _ (W v : ℕ) where
   -- none are to come
-  none_more : (s : ℕ) (w : Number) (ns : Numbers) → Bad ≡ more_says W v 0 s (with_number w ns)
+  none_more : (s : ℕ) (w : Number) (ns : Numbers) → None ≡ more_says W v 0 s (with_number w ns)
   unfolding more_says with_number
   none_more s none ns = refl
   none_more s (is x) broken = refl
@@ -81,9 +78,9 @@ module _ (W v : ℕ) where
       at false e broken ih = refl
       at false e (are xs) ih =
           let a : leb (s + (x + total xs)) W ≡ false = lt-leb (s + (x + total xs)) W (omega (arith, leb-false (s + x) W e)) in
-          rw a (no (eqb (suc (length xs)) (suc n)) (Widths v (s + (x + total xs))))
+          rw a (no (eqb (suc (length xs)) (suc n)) (Some (Widths v (s + (x + total xs)))))
         where
-          no : (p : Bool) (m : Says) → Bad ≡ cond (p && false) m Bad
+          no : (p : Bool) (m : Option Says) → None ≡ cond (p && false) m None
           no true m = refl
           no false m = refl
 
@@ -101,14 +98,14 @@ module _ (W v : ℕ) where
       let z : 0 + total xs ≡ total xs = omega arith in
       rw z (go (eqb (length xs) v) (leb (total xs) W) refl)
     where
-      go : (p q : Bool) → eqb (length xs) v ≡ p → told (cond (p && q) (widths xs) bad) ≡ cond (p && q) (Widths v (total xs)) Bad
-      go true true e = ap (λ n. Widths n (total xs)) (eqb-true _ _ e)
+      go : (p q : Bool) → eqb (length xs) v ≡ p → told (cond (p && q) (widths xs) bad) ≡ cond (p && q) (Some (Widths v (total xs))) None
+      go true true e = ap (λ n. Some (Widths n (total xs))) (eqb-true _ _ e)
       go true false e = refl
       go false q e = refl
 
-  pub widths_said : (f : Word) (ws : List (List ℕ)) → f.good ≡ true → f.value ≡ v → widths_from W f ws ≡ sum_says v (sums W v 0 ws)
-  widths_said f ws g e = rw (g, e) (widths_all (numbers ws) ∙ sym (sums_say v 0 ws (omega arith)))
+  pub widths_said : (f : Word) (ws : List (List ℕ)) → f.number ≡ Some v → widths_from W f ws ≡ sum_says v (sums W v 0 ws)
+  widths_said f ws e = rw e (widths_all (numbers ws) ∙ sym (sums_say v 0 ws (omega arith)))
 
-pub widths_none : (W : ℕ) (f : Word) (ws : List (List ℕ)) → f.good ≡ false → widths_from W f ws ≡ Bad
+pub widths_none : (W : ℕ) (f : Word) (ws : List (List ℕ)) → f.number ≡ None → widths_from W f ws ≡ None
 unfolding told widths_line with_number
 widths_none W f ws g = rw g

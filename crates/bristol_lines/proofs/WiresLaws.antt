@@ -1,62 +1,58 @@
 -- The wires of a gate line: the last three are kept.
---     keeps_stop, keeps_go    a wire more: it is no number or is too large; else it is kept
+--     keeps_none, keeps_large, keeps_go    a wire more: it is no number or is too large; else it is kept
 --     kept_said               the line by what is kept: lasts_say, kept_says, rest_says
 --     Sized, sized            as many wires as were asked for
 -- Assumes nothing.
 use mathlib.Core.Path.{◌≡◌, refl, ap, ◌∙◌}
-use mathlib.Core.Bool.{Bool, true, false, not, cond, ◌||◌}
+use mathlib.Core.Bool.{Bool, true, false, cond}
 use mathlib.Core.List.{List, [], ◌∷◌}
-use Prim.Native.Nat.{ℕ, zero, suc}
+use Prim.Native.Nat.{ℕ, zero, suc, ◌≤◌, ◌<◌}
 use lib.ListN.{length}
-use lib.Dec.{leb, ltb}
-use borrow.Author.Tests.{le-ltb, lt-ltb, leb-true, leb-false}
+use lib.Dec.{ltb}
+use borrow.Author.Tests.{le-ltb, lt-ltb}
+use Rattle.std.proofs.Common.{Option, None, Some}
 use Rattle.bristol_text.specs.Words.{Number, is, none, number}
 use Rattle.bristol_text.specs.Lines.{Rest, wires_word, no_rest, with_wire, rest, gate_word}
 use Rattle.bristol_words.specs.declared.Word.{Word}
+use Rattle.bristol_words.specs.Mirror.{told_number, word_of}
 use Rattle.bristol_text.specs.declared.Says.{Says}
-use Rattle.bristol_text.specs.declared.Says.TheVariants.{Bad}
 use Rattle.bristol_lines.specs.Mirror.{gate_says, Kept, kept, none_kept, keep_number, keeps, word_says}
 use Rattle.bristol_lines.proofs.SeenLaws.{Seen, gone, seen}
 
-module _ (W n x y z : ℕ) (ws vs : List (List ℕ)) (w : List ℕ) (r : Word) where
-  keeps_next : Seen ws w vs r → keeps W (suc n) x y z ws ≡ cond r.good (cond (ltb r.value W) (keeps W n y z r.value vs) none_kept) none_kept
+module _ (W n x y z : ℕ) (ws vs : List (List ℕ)) (w : List ℕ) (r : Word) (h : Seen ws w vs r) where
+  keeps_next : keeps W (suc n) x y z ws ≡ keep_number W (told_number r) (λ t. keeps W n y z t vs)
   unfolding keeps keep_number
-  keeps_next (gone e _ g) = rw (e, g)
-  keeps_next (seen e _ h) = rw (e, h) (go r.good)
+  keeps_next = go h
     where
-      go : (g : Bool) → keep_number W (cond g (is r.value) none) (λ t. keeps W n y z t vs) ≡ cond g (cond (ltb r.value W) (keeps W n y z r.value vs) none_kept) none_kept
-      go true = refl
-      go false = refl
+      go : Seen ws w vs r → keeps W (suc n) x y z ws ≡ keep_number W (told_number r) (λ t. keeps W n y z t vs)
+      go (gone e _ g) = rw (e, g)
+      go (seen e _ g) = rw (e, g)
 
-  pub keeps_stop : Seen ws w vs r → (not r.good || leb W r.value) ≡ true → keeps W (suc n) x y z ws ≡ none_kept
-  keeps_stop h q = keeps_next h ∙ go r.good (leb W r.value) refl q
-    where
-      go : (g p : Bool) → leb W r.value ≡ p → (not g || p) ≡ true → cond g (cond (ltb r.value W) (keeps W n y z r.value vs) none_kept) none_kept ≡ none_kept
-      go false p e q = refl
-      go true true e q = rw (le-ltb r.value W (leb-true _ _ e))
-      go true false e q = cc
+  pub keeps_none : r.number ≡ None → keeps W (suc n) x y z ws ≡ none_kept
+  unfolding keep_number
+  keeps_none e = keeps_next ∙ rw e
 
-  pub keeps_go : Seen ws w vs r → (not r.good || leb W r.value) ≡ false → keeps W (suc n) x y z ws ≡ keeps W n y z r.value vs
-  keeps_go h q = keeps_next h ∙ go r.good (leb W r.value) refl q
-    where
-      go : (g p : Bool) → leb W r.value ≡ p → (not g || p) ≡ false → cond g (cond (ltb r.value W) (keeps W n y z r.value vs) none_kept) none_kept ≡ keeps W n y z r.value vs
-      go true false e q = rw (lt-ltb r.value W (leb-false _ _ e))
-      go true true e q = cc
-      go false p e q = cc
+  pub keeps_large : (v : ℕ) → r.number ≡ Some v → W ≤ v → keeps W (suc n) x y z ws ≡ none_kept
+  unfolding keep_number
+  keeps_large v e l = keeps_next ∙ rw (e, le-ltb v W l)
+
+  pub keeps_go : (v : ℕ) → r.number ≡ Some v → v < W → keeps W (suc n) x y z ws ≡ keeps W n y z v vs
+  unfolding keep_number
+  keeps_go v e l = keeps_next ∙ rw (e, lt-ltb v W l)
 
 -- the last three of x, y, z and what follows
-unfoldable pub lasts_say : (ℕ → ℕ → ℕ → Says) → ℕ → ℕ → ℕ → List ℕ → Says
+unfoldable pub lasts_say : (ℕ → ℕ → ℕ → Option Says) → ℕ → ℕ → ℕ → List ℕ → Option Says
 lasts_say f x y z [] = f x y z
 lasts_say f x y z (v ∷ vs) = lasts_say f y z v vs
 
 -- what is said behind the wires
-unfoldable pub kept_says : ℕ → ℕ → Kept → Says
-kept_says i o none_kept = Bad
+unfoldable pub kept_says : ℕ → ℕ → Kept → Option Says
+kept_says i o none_kept = None
 kept_says i o (kept x y z ws) = word_says i o x y z ws
 
-unfoldable pub rest_says : ℕ → ℕ → ℕ → ℕ → ℕ → Rest → Says
-rest_says i o x y z no_rest = Bad
-rest_says i o x y z (wires_word xs w) = lasts_say (gate_says (gate_word w) i o) x y z xs
+unfoldable pub rest_says : ℕ → ℕ → ℕ → ℕ → ℕ → Rest → Option Says
+rest_says i o x y z no_rest = None
+rest_says i o x y z (wires_word xs w) = lasts_say (gate_says (word_of (gate_word w)) i o) x y z xs
 
 module _ (W i o : ℕ) where
   one_wire : (x y z : ℕ) (w : Number) (r : Rest) (go : ℕ → Kept) → ((v : ℕ) → kept_says i o (go v) ≡ rest_says i o y z v r)
@@ -65,7 +61,7 @@ module _ (W i o : ℕ) where
   one_wire x y z none r go ih = refl
   one_wire x y z (is v) no_rest go ih = at (ltb v W)
     where
-      at : (p : Bool) → kept_says i o (cond p (go v) none_kept) ≡ Bad
+      at : (p : Bool) → kept_says i o (cond p (go v) none_kept) ≡ None
       at true = ih v
       at false = refl
   one_wire x y z (is v) (wires_word xs w) go ih = at (ltb v W)

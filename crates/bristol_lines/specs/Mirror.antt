@@ -1,50 +1,59 @@
 -- What the functions on lines say, by places in a text. No public contract cites these.
---     LineFrom         a line read from a place on: what it says, and where it ends unless it is bad
+--     LineFrom         a line read from a place on: what it says, and where it ends
 --     counts_from, widths_from, gate_from    behind a first word: the definition on the words that are left
 --     Summed, WiresRead    widths added up, wires read
-use Rattle.std.specs.Prelude.{◌≡◌, true, cond, ◌&&◌, List, [], ◌∷◌, ℕ, zero, suc, ◌+◌, ◌≤◌, length, leb, ltb, eqb}
+use Rattle.std.specs.Prelude.{◌≡◌, cond, ◌&&◌, List, [], ◌∷◌, ℕ, zero, suc, ◌+◌, ◌≤◌, length, leb, ltb, eqb, Option, None, Some, IfSome}
 use Rattle.bristol_text.specs.Words.{Number, is, none, number}
 use Rattle.bristol_text.specs.Lines as text
 use Rattle.bristol_text.specs.Told.{told}
 use Rattle.bristol_words.specs.declared.Word.{Word}
-use Rattle.bristol_words.specs.Mirror.{words_at, line_end, told_number}
+use Rattle.bristol_words.specs.declared.GateWord.{GateWord}
+use Rattle.bristol_words.specs.declared.GateWord.TheVariants as word
+use Rattle.bristol_words.specs.Mirror.{words_at, line_end, told_number, word_of}
 use Rattle.bristol_text.specs.declared.Says.{Says}
-use Rattle.bristol_text.specs.declared.Says.TheVariants.{Bad, Other, Two, One}
+use Rattle.bristol_text.specs.declared.Says.TheVariants.{Other, Xor, And, Inv, Eqw}
 use Rattle.bristol_lines.specs.declared.Line.{Line}
 use Rattle.bristol_lines.specs.declared.Sum.{Sum}
 use Rattle.bristol_lines.specs.declared.Wires.{Wires}
 
-abbrev pub bad_line : Line
-bad_line = record { says = Bad; end = 0 }
+-- a place behind so many words of the line, and not behind its end
+pub record Behind (t : List ℕ) (at end : ℕ) : Type 0 where
+  pub inside : end ≤ length t
+  pub line : line_end t end ≡ line_end t at
+
+abbrev pub says_of : Option Line → Option Says
+says_of None = None
+says_of (Some r) = Some r.says
 
 -- read from place at on
-pub record LineFrom (t : List ℕ) (at : ℕ) (s : Says) (r : Line) : Type 0 where
-  pub says : r.says ≡ s
-  pub ends : ¬ (r.says ≡ Bad) → r.end ≡ line_end t at
+pub record LineFrom (t : List ℕ) (at : ℕ) (s : Option Says) (r : Option Line) : Type 0 where
+  pub says : says_of r ≡ s
+  pub ends : IfSome r (λ l. l.end ≡ line_end t at)
 
-abbrev pub LineAt : List ℕ → ℕ → ℕ → ℕ → Line → Type 0
+abbrev pub LineAt : List ℕ → ℕ → ℕ → ℕ → Option Line → Type 0
 LineAt t at K W r = LineFrom t at (told (text.line_says K W (words_at t at))) r
 
 -- behind a first word
-abbrev pub counts_from : Word → List (List ℕ) → Says
+abbrev pub counts_from : Word → List (List ℕ) → Option Says
 counts_from f ws = told (text.counts_line (text.with_number (told_number f) (text.numbers ws)))
 
-abbrev pub widths_from : ℕ → Word → List (List ℕ) → Says
+abbrev pub widths_from : ℕ → Word → List (List ℕ) → Option Says
 widths_from W f ws = told (text.widths_line W (text.with_number (told_number f) (text.numbers ws)))
 
-unfoldable pub gate_after : ℕ → Number → List (List ℕ) → Says
-gate_after W i [] = Bad
+unfoldable pub gate_after : ℕ → Number → List (List ℕ) → Option Says
+gate_after W i [] = None
 gate_after W i (o ∷ ws) = told (text.with_counts W i (number o) ws)
 
-abbrev pub gate_from : ℕ → Word → List (List ℕ) → Says
+abbrev pub gate_from : ℕ → Word → List (List ℕ) → Option Says
 gate_from W f ws = gate_after W (told_number f) ws
 
 -- the last three wires are all of a gate that reads two, and the last two are all of one that reads one
-unfoldable pub gate_says : ℕ → ℕ → ℕ → ℕ → ℕ → ℕ → Says
-gate_says k i o x y z =
-    cond (eqb k 0) Other
-    (cond (leb k 2 && eqb i 2 && eqb o 1) (Two k x y z)
-    (cond (leb 3 k && eqb i 1 && eqb o 1) (One k y z) Bad))
+unfoldable pub gate_says : Option GateWord → ℕ → ℕ → ℕ → ℕ → ℕ → Option Says
+gate_says None i o x y z = Some Other
+gate_says (Some word.Xor) i o x y z = cond (eqb i 2 && eqb o 1) (Some (Xor x y z)) None
+gate_says (Some word.And) i o x y z = cond (eqb i 2 && eqb o 1) (Some (And x y z)) None
+gate_says (Some word.Inv) i o x y z = cond (eqb i 1 && eqb o 1) (Some (Inv y z)) None
+gate_says (Some word.Eqw) i o x y z = cond (eqb i 1 && eqb o 1) (Some (Eqw y z)) None
 
 -- so many widths added to a sum, and the words that are left
 pub data Left : Type 0 where
@@ -61,13 +70,13 @@ sums W (suc n) s [] = none_left
 sums W (suc n) s (w ∷ ws) = sum_number W s (number w) (λ t. sums W n t ws)
 
 -- what a Sum stands for, at its place of a text
-abbrev pub sum_left : List ℕ → Sum → Left
-sum_left t r = cond r.good (left r.sum (words_at t r.end)) none_left
+abbrev pub sum_left : List ℕ → Option Sum → Left
+sum_left t None = none_left
+sum_left t (Some r) = left r.sum (words_at t r.end)
 
-pub record Summed (t : List ℕ) (at n W : ℕ) (r : Sum) : Type 0 where
+pub record Summed (t : List ℕ) (at n W : ℕ) (r : Option Sum) : Type 0 where
   pub same : sum_left t r ≡ sums W n 0 (words_at t at)
-  pub inside : r.end ≤ length t
-  pub line : r.good ≡ true → line_end t r.end ≡ line_end t at
+  pub place : IfSome r (λ s. Behind t at s.end)
 
 -- so many wires, of which the last three are kept, and the words that are left
 pub data Kept : Type 0 where
@@ -83,19 +92,19 @@ keeps W zero x y z ws = kept x y z ws
 keeps W (suc n) x y z [] = none_kept
 keeps W (suc n) x y z (w ∷ ws) = keep_number W (number w) (λ v. keeps W n y z v ws)
 
-abbrev pub wires_kept : List ℕ → Wires → Kept
-wires_kept t r = cond r.good (kept r.x r.y r.z (words_at t r.end)) none_kept
+abbrev pub wires_kept : List ℕ → Option Wires → Kept
+wires_kept t None = none_kept
+wires_kept t (Some r) = kept r.x r.y r.z (words_at t r.end)
 
-pub record WiresRead (t : List ℕ) (at n W : ℕ) (r : Wires) : Type 0 where
+pub record WiresRead (t : List ℕ) (at n W : ℕ) (r : Option Wires) : Type 0 where
   pub same : wires_kept t r ≡ keeps W n 0 0 0 (words_at t at)
-  pub inside : r.end ≤ length t
-  pub line : r.good ≡ true → line_end t r.end ≡ line_end t at
+  pub place : IfSome r (λ w. Behind t at w.end)
 
 -- behind the wires
-unfoldable pub word_says : ℕ → ℕ → ℕ → ℕ → ℕ → List (List ℕ) → Says
-word_says i o x y z [] = Bad
-word_says i o x y z (w ∷ []) = gate_says (text.gate_word w) i o x y z
-word_says i o x y z (w ∷ v ∷ ws) = Bad
+unfoldable pub word_says : ℕ → ℕ → ℕ → ℕ → ℕ → List (List ℕ) → Option Says
+word_says i o x y z [] = None
+word_says i o x y z (w ∷ []) = gate_says (word_of (text.gate_word w)) i o x y z
+word_says i o x y z (w ∷ v ∷ ws) = None
 
-abbrev pub wires_from : ℕ → ℕ → Wires → List (List ℕ) → Says
+abbrev pub wires_from : ℕ → ℕ → Wires → List (List ℕ) → Option Says
 wires_from i o w ws = word_says i o w.x w.y w.z ws

@@ -2,113 +2,86 @@
 #![tactic(auto)]
 
 ghost use Rattle.std.specs.Prelude.{◌≡◌, ◌+◌, ◌≤◌, length};
-ghost use Rattle.bristol_words.specs.Mirror.{words_at, line_end, Next};
-ghost use Rattle.bristol_lines.specs.Mirror.{LineAt, LineFrom, bad_line, gate_says, Summed, WiresRead, wires_from, counts_from, widths_from, gate_from};
+ghost use Rattle.bristol_text.specs.Told.{header_lines};
+ghost use Rattle.bristol_words.specs.Mirror.{words_at};
+ghost use Rattle.bristol_lines.specs.Mirror.{LineAt, LineFrom, gate_says, Summed, WiresRead, wires_from, counts_from, widths_from, gate_from};
 
-use bristol_text::Says;
-use bristol_words::Word;
+use bristol_text::{Says, Stage};
+use bristol_words::{GateWord, Word};
 
-// What a line says, and the place where it ends, before its LF; of a bad line any place.
+// What a good line says, and the place where it ends, before its LF.
 #[derive(Clone, Copy)]
 pub struct Line {
     pub says: Says,
     pub end: usize,
 }
 
-fn bad() -> Line
-    ensures { result ≡ bad_line }
-{
-    Line {
-        says: Says::Bad,
-        end: 0,
-    }
-}
-
 // "a line with gate and wire counts", behind its first word
-fn counts_line(text: &[u8], first: Word) -> Line
+fn counts_line(text: &[u8], first: Word) -> Option<Line>
     requires { first.end ≤ length text.now }
     ensures { LineFrom text.now first.end (counts_from first (words_at text.now first.end)) result }
 {
-    let w = bristol_words::next_word(text, first.end);
-    let n = bristol_words::next_word(text, w.end);
-    if first.good & w.good & (n.start == n.end) & (w.value <= 8192) {
-        return Line {
-            says: Says::Counts {
-                gates: first.value,
-                wires: w.value,
-            },
-            end: n.end,
-        };
+    let second = bristol_words::next_word(text, first.end);
+    let next = bristol_words::next_word(text, second.end);
+    let gates = first.number?;
+    let wires = second.number?;
+    if !next.is_empty() | (wires > 8192) {
+        return None;
     }
-    bad()
+    Some(Line {
+        says: Says::Counts { gates, wires },
+        end: next.end,
+    })
 }
 
-// Widths that were added up; where they are not good, sum and end are 0.
+// Widths that were added up, and the place behind them.
 #[derive(Clone, Copy)]
 pub struct Sum {
-    pub good: bool,
     pub sum: u32,
     pub end: usize,
 }
 
 // n widths from a place on, whose sum is at most the wire count.
-fn sum_widths(text: &[u8], at: usize, n: u32, wires: u32) -> Sum
+fn sum_widths(text: &[u8], at: usize, n: u32, wires: u32) -> Option<Sum>
     requires { at ≤ length text.now }
     ensures { Summed text.now at n wires result }
 {
-    let mut k: u32 = 0;
-    let mut e = at;
+    let mut end = at;
     let mut sum: u32 = 0;
-    while k < n {
-        let w = bristol_words::next_word(text, e);
-        let t = sum as usize + w.value as usize;
-        if !w.good | (t > wires as usize) {
-            return Sum {
-                good: false,
-                sum: 0,
-                end: 0,
-            };
+    for _ in 0..n {
+        let word = bristol_words::next_word(text, end);
+        sum = sum.checked_add(word.number?)?;
+        if sum > wires {
+            return None;
         }
-        sum = t as u32;
-        e = w.end;
-        k += 1;
+        end = word.end;
     }
-    Sum {
-        good: true,
-        sum: sum,
-        end: e,
-    }
+    Some(Sum { sum, end })
 }
 
 // "a line with the number of input values and their widths", behind its first word
-fn widths_line(text: &[u8], first: Word, wires: u32) -> Line
+fn widths_line(text: &[u8], first: Word, wires: u32) -> Option<Line>
     requires { first.end ≤ length text.now }
     ensures { LineFrom text.now first.end (widths_from wires first (words_at text.now first.end)) result }
 {
-    if !first.good {
-        return bad();
+    let values = first.number?;
+    let widths = sum_widths(text, first.end, values, wires)?;
+    let next = bristol_words::next_word(text, widths.end);
+    if !next.is_empty() {
+        return None;
     }
-    let s = sum_widths(text, first.end, first.value, wires);
-    if !s.good {
-        return bad();
-    }
-    let n = bristol_words::next_word(text, s.end);
-    if n.start != n.end {
-        return bad();
-    }
-    Line {
+    Some(Line {
         says: Says::Widths {
-            values: first.value,
-            sum: s.sum,
+            values,
+            sum: widths.sum,
         },
-        end: n.end,
-    }
+        end: next.end,
+    })
 }
 
-// The last three wires of those that were read: all of a gate that reads two, and the last two all of one that reads one.
+// The last three wires of those that were read, all of a gate that reads two, and the last two all of one that reads one; the place behind them.
 #[derive(Clone, Copy)]
 pub struct Wires {
-    pub good: bool,
     pub x: u32,
     pub y: u32,
     pub z: u32,
@@ -116,116 +89,97 @@ pub struct Wires {
 }
 
 // n wires below the wire count, from a place on.
-fn read_wires(text: &[u8], at: usize, n: usize, wires: u32) -> Wires
+fn read_wires(text: &[u8], at: usize, n: usize, wires: u32) -> Option<Wires>
     requires { at ≤ length text.now }
     ensures { WiresRead text.now at n wires result }
 {
-    let mut k: usize = 0;
-    let mut e = at;
-    let mut x: u32 = 0;
-    let mut y: u32 = 0;
-    let mut z: u32 = 0;
-    while k < n {
-        let w = bristol_words::next_word(text, e);
-        if !w.good | (w.value >= wires) {
-            return Wires {
-                good: false,
-                x: 0,
-                y: 0,
-                z: 0,
-                end: 0,
-            };
+    let mut read = Wires {
+        x: 0,
+        y: 0,
+        z: 0,
+        end: at,
+    };
+    for _ in 0..n {
+        let word = bristol_words::next_word(text, read.end);
+        let wire = word.number?;
+        if wire >= wires {
+            return None;
         }
-        x = y;
-        y = z;
-        z = w.value;
-        e = w.end;
-        k += 1;
+        read = Wires {
+            x: read.y,
+            y: read.z,
+            z: wire,
+            end: word.end,
+        };
     }
-    Wires {
-        good: true,
-        x: x,
-        y: y,
-        z: z,
-        end: e,
-    }
+    Some(read)
 }
 
 // "XOR and AND with 2 1, INV and EQW with 1 1"
-fn gate(kind: u32, ins: u32, outs: u32, w: Wires) -> Says
-    ensures { result ≡ gate_says kind ins outs w.x w.y w.z }
+#[tactic(auto, unfolding(crate::specs::Mirror::gate_says))]
+fn gate(word: Option<GateWord>, ins: u32, outs: u32, read: Wires) -> Option<Says>
+    ensures { result ≡ gate_says word ins outs read.x read.y read.z }
 {
-    if kind == 0 {
-        return Says::Other;
+    let Wires { x, y, z, end: _ } = read;
+    match (word, ins, outs) {
+        (None, _, _) => Some(Says::Other),
+        (Some(GateWord::Xor), 2, 1) => Some(Says::Xor { x, y, z }),
+        (Some(GateWord::And), 2, 1) => Some(Says::And { x, y, z }),
+        (Some(GateWord::Inv), 1, 1) => Some(Says::Inv { x: y, z }),
+        (Some(GateWord::Eqw), 1, 1) => Some(Says::Eqw { x: y, z }),
+        _ => None,
     }
-    if (kind <= 2) & (ins == 2) & (outs == 1) {
-        return Says::Two {
-            kind: kind,
-            x: w.x,
-            y: w.y,
-            z: w.z,
-        };
-    }
-    if (kind >= 3) & (ins == 1) & (outs == 1) {
-        return Says::One {
-            kind: kind,
-            x: w.y,
-            z: w.z,
-        };
-    }
-    Says::Bad
 }
 
 // Behind the wires: a word, and nothing else.
-fn word_line(text: &[u8], ins: u32, outs: u32, w: Wires) -> Line
-    requires { w.end ≤ length text.now }
-    ensures { LineFrom text.now w.end (wires_from ins outs w (words_at text.now w.end)) result }
+fn word_line(text: &[u8], ins: u32, outs: u32, read: Wires) -> Option<Line>
+    requires { read.end ≤ length text.now }
+    ensures { LineFrom text.now read.end (wires_from ins outs read (words_at text.now read.end)) result }
 {
-    let v = bristol_words::next_word(text, w.end);
-    let n = bristol_words::next_word(text, v.end);
-    if (v.start == v.end) | (n.start != n.end) {
-        return bad();
+    let word = bristol_words::next_word(text, read.end);
+    let next = bristol_words::next_word(text, word.end);
+    if word.is_empty() | !next.is_empty() {
+        return None;
     }
-    let kind = bristol_words::gate_word(text, v.start, v.end);
-    Line {
-        says: gate(kind, ins, outs, w),
-        end: n.end,
-    }
+    let says = gate(
+        bristol_words::gate_word(&text[word.start..word.end]),
+        ins,
+        outs,
+        read,
+    )?;
+    Some(Line {
+        says,
+        end: next.end,
+    })
 }
 
 // "a gate line is two counts, that many wires and a word", behind its first word
-fn gate_line(text: &[u8], first: Word, wires: u32) -> Line
+fn gate_line(text: &[u8], first: Word, wires: u32) -> Option<Line>
     requires { first.end ≤ length text.now }
     ensures { LineFrom text.now first.end (gate_from wires first (words_at text.now first.end)) result }
 {
-    let o = bristol_words::next_word(text, first.end);
-    if !first.good | !o.good {
-        return bad();
-    }
-    let w = read_wires(text, o.end, first.value as usize + o.value as usize, wires);
-    if !w.good {
-        return bad();
-    }
-    word_line(text, first.value, o.value, w)
+    let second = bristol_words::next_word(text, first.end);
+    let ins = first.number?;
+    let outs = second.number?;
+    let read = read_wires(text, second.end, ins as usize + outs as usize, wires)?;
+    word_line(text, ins, outs, read)
 }
 
-// The line that begins at a place, behind so many header lines and with so many wires.
-pub fn line_at(text: &[u8], at: usize, stage: u32, wires: u32) -> Line
+// The line that begins at a place, by which comes next, with so many wires. A line that is no good text is none.
+pub fn line_at(text: &[u8], at: usize, stage: Stage, wires: u32) -> Option<Line>
     requires { at ≤ length text.now }
-    ensures { LineAt text.now at stage wires result }
+    ensures { LineAt text.now at (header_lines stage) wires result }
 {
     let first = bristol_words::next_word(text, at);
-    if first.start == first.end {
-        return Line {
+    if first.is_empty() {
+        return Some(Line {
             says: Says::Blank,
             end: first.end,
-        };
+        });
     }
-    if stage == 0 {
-        return counts_line(text, first);
+    match stage {
+        Stage::Counts => counts_line(text, first),
+        Stage::Inputs | Stage::Outputs => widths_line(text, first, wires),
+        Stage::Gates => gate_line(text, first, wires),
     }
-    if stage <= 2 {
-        return widths_line(text, first, wires);
-    }
-    gate_line(text, first, wires)
 }

@@ -1,8 +1,8 @@
 -- The pass as its loop meets it.
 --     turn_on       a line without a fault, and on behind it
---     turn_stop     a faulty line
---     turn_start, turn_end    before the first line, behind the last
---     seat_inside, not_bad    the inputs' line begins inside the text; a bad line has a fault
+--     stop_bad, stop_checked    a faulty line
+--     turn_end      behind the last
+--     seat_inside   the inputs' line begins inside the text
 -- Assumes nothing.
 use mathlib.Core.Path.{◌≡◌, refl, sym, ap, ◌∙◌}
 use mathlib.Core.Bool.{Bool, true, false, cond}
@@ -11,15 +11,24 @@ use Prim.Native.Nat.{ℕ, ◌+◌, ◌<◌, ◌≤◌}
 use native.Mathlib.Omega.{arith}
 use lib.ListN.{length, drop, drop_of_length-le}
 use lib.Dec.{eqb}
-use borrow.Author.Tests.{eq-eqb, ne_eqb}
+use borrow.Author.Tests.{eqb-false}
+use Rattle.std.proofs.Common.{Option, None, Some}
+use Rattle.theory_calls.specs.Checks.{accepted, refuses}
+use Rattle.check_refusal.specs.declared.Refusal.{Refusal}
+use Rattle.check_refusal.specs.declared.Refusal.TheVariants.{TextLine}
+use Rattle.check_refusal.specs.Number.{number_of, place_of}
 use Rattle.bristol_text.specs.Words.{lines, split, but_empty_last}
 use Rattle.bristol_text.specs.declared.Says.{Says}
-use Rattle.bristol_text.specs.declared.Says.TheVariants.{Bad}
+use Rattle.bristol_text.specs.Told.{header_lines}
+use Rattle.bristol_lines.specs.declared.Line.{Line}
+use Rattle.bristol_lines.specs.Mirror.{says_of, LineFrom}
+use Rattle.bristol_wires.specs.declared.Numbering.{Numbering}
+use Rattle.bristol_pass.specs.declared.Pass.{Pass}
 use Rattle.bristol_words.specs.Mirror.{rest_line, words_at, line_end}
 use Rattle.bristol_wires.specs.declared.Text.{Text}
-use Rattle.bristol_wires.specs.Mirror.{fault_of, map_after, gates_after, text_after, nothing_read}
+use Rattle.bristol_wires.specs.Mirror.{fault_of, line_verdict, map_after, gates_after, text_after}
 use Rattle.bristol_wires.specs.Pass.{Passed, says_by, pass_from}
-use Rattle.bristol_pass.specs.Mirror.{behind_of}
+use Rattle.bristol_pass.specs.Mirror.{behind_of, told_pass, Stopped}
 use Rattle.bristol_pass.proofs.LineLaws.{line_front}
 
 -- the place of the inputs' line, and its words
@@ -27,47 +36,66 @@ seat_words : (t : List ℕ) (p : Bool) (at seat : ℕ) → words_at t (cond p at
 seat_words t true at seat = refl
 seat_words t false at seat = refl
 
-module _ (tx : List ℕ) (n at seat : ℕ) (t : Text) (m g : List ℕ) (h : at < length tx) (s : Says) (e : s ≡ says_by t (words_at tx at))
-    (f : ℕ) (q : f ≡ fault_of t m s) (v : Passed) (inv : pass_from n t (words_at tx seat) m g (lines (drop at tx)) ≡ v) where
+module _ (tx : List ℕ) (n at seat : ℕ) (t : Text) (m g : List ℕ) (h : at < length tx) (v : Passed)
+    (inv : pass_from n t (words_at tx seat) m g (lines (drop at tx)) ≡ v) where
   abbrev later : List (List ℕ)
   later = lines (drop (behind_of tx (line_end tx at)) tx)
 
   here : pass_from n t (words_at tx seat) m g (rest_line tx at ∷ later) ≡ v
   here = ap (pass_from n t (words_at tx seat) m g) (sym (line_front tx at h)) ∙ inv
 
-  pub turn_stop : (f ≡ 0 → ⊥) → record { fault = f; line = n + 1; text = t; words = words_at tx seat; map = m; gates = g } ≡ v
+  -- a line with a fault, by the refusal that names it
+  turn_stop : (d : Refusal) (s : Option Says) → s ≡ says_by t (words_at tx at) → eqb (fault_of t m s) 0 ≡ false → number_of d ≡ fault_of t m s → place_of d ≡ n + 1 → Stopped d v
   unfolding pass_from
-  turn_stop z =
-      let bad : eqb (fault_of t m (says_by t (words_at tx at))) 0 ≡ false = rw (← e, ← q) (ne_eqb f 0 z) in
+  turn_stop d s e z a b =
+      let bad : eqb (fault_of t m (says_by t (words_at tx at))) 0 ≡ false = rw (← e) z in
       let y = rw bad at here in
-      rw (q, e) y
+      record {
+        faulty = λ f. eqb-false _ _ z (ap (fault_of t m) e ∙ ap (λ (p : Passed). p.fault) y ∙ f);
+        number = a ∙ ap (fault_of t m) e ∙ ap (λ (p : Passed). p.fault) y;
+        place = b ∙ ap (λ (p : Passed). p.line) y;
+      }
 
-  pub turn_on : f ≡ 0 → (seat2 : ℕ) → seat2 ≡ cond (eqb t.stage 1) at seat → (m2 g2 : List ℕ) → m2 ≡ map_after t m s → g2 ≡ gates_after t m s g
-      → (t2 : Text) → t2 ≡ text_after t s → (end at2 : ℕ) → end ≡ line_end tx at → at2 ≡ behind_of tx end
-      → pass_from (n + 1) t2 (words_at tx seat2) m2 g2 (lines (drop at2 tx)) ≡ v
-  unfolding pass_from
-  turn_on z seat2 a m2 g2 b c t2 d end at2 i j =
-      let good : eqb (fault_of t m (says_by t (words_at tx at))) 0 ≡ true = rw (← e, ← q) (eq-eqb f 0 z) in
-      let y = rw good at here in
-      rw (a, b, c, d, j, i, e, seat_words tx (eqb t.stage 1) at seat) y
+  -- a line that is no good text, and one that is checked
+  pub stop_bad : (r : Option Line) → r ≡ None → LineFrom tx at (says_by t (words_at tx at)) r → Stopped (TextLine (n + 1)) v
+  unfolding fault_of
+  stop_bad r e l = turn_stop (TextLine (n + 1)) None (sym (ap says_of e) ∙ l.says) refl refl refl
 
-pub turn_end : (tx : List ℕ) (n at seat : ℕ) (t : Text) (m g : List ℕ) (v : Passed) → length tx ≤ at → pass_from n t (words_at tx seat) m g (lines (drop at tx)) ≡ v
-    → record { fault = 0; line = n; text = t; words = words_at tx seat; map = m; gates = g } ≡ v
+  module _ (r : Line) (l : LineFrom tx at (says_by t (words_at tx at)) (Some r)) where
+    pub stop_checked : (d : Refusal) → refuses (number_of d) (place_of d) ≡ line_verdict (fault_of t m (Some r.says)) (n + 1) → Stopped d v
+    stop_checked d q = go (eqb (fault_of t m (Some r.says)) 0) refl q
+      where
+        go : (b : Bool) → eqb (fault_of t m (Some r.says)) 0 ≡ b → refuses (number_of d) (place_of d) ≡ cond b accepted (refuses (fault_of t m (Some r.says)) (n + 1)) → Stopped d v
+        go true f c = absurd (cc)
+        go false f c = turn_stop d (Some r.says) l.says f (cc) (cc)
+
+    pub turn_on : accepted ≡ line_verdict (fault_of t m (Some r.says)) (n + 1) → (seat2 : ℕ) → seat2 ≡ cond (eqb (header_lines t.stage) 1) at seat
+        → (b : Numbering) → b.map ≡ map_after t m (Some r.says) → b.gates ≡ gates_after t m (Some r.says) g → b.text ≡ text_after t (Some r.says)
+        → (at2 : ℕ) → at2 ≡ behind_of tx r.end
+        → pass_from (n + 1) b.text (words_at tx seat2) b.map b.gates (lines (drop at2 tx)) ≡ v
+    unfolding pass_from
+    turn_on q seat2 a b bm bg bt at2 j =
+        let e : Some r.says ≡ says_by t (words_at tx at) = l.says in
+        let good : eqb (fault_of t m (says_by t (words_at tx at))) 0 ≡ true = rw (← e) (fine q) in
+        let y = rw good at here in
+        rw (a, bm, bg, bt, j, l.ends, e, seat_words tx (eqb (header_lines t.stage) 1) at seat) y
+      where
+        go : (b : Bool) → accepted ≡ cond b accepted (refuses (fault_of t m (Some r.says)) (n + 1)) → b ≡ true
+        go true c = refl
+        go false c = absurd (cc)
+
+        fine : accepted ≡ line_verdict (fault_of t m (Some r.says)) (n + 1) → eqb (fault_of t m (Some r.says)) 0 ≡ true
+        fine c = go (eqb (fault_of t m (Some r.says)) 0) c
+
+pub turn_end : (tx : List ℕ) (r : Pass) (at : ℕ) (b : Numbering) (v : Passed) → length tx ≤ at → pass_from r.lines b.text (words_at tx r.seat) b.map b.gates (lines (drop at tx)) ≡ v
+    → told_pass tx r b ≡ v
 unfolding pass_from lines split but_empty_last
-turn_end tx n at seat t m g v h inv = rw (drop_of_length-le tx h) at inv
+turn_end tx r at b v h inv = rw (drop_of_length-le tx h) at inv
 
--- before the first line
-pub turn_start : (t : Text) (ws : List (List ℕ)) (m g : List ℕ) (ls : List (List ℕ)) → t ≡ nothing_read → pass_from 0 t ws m g ls ≡ pass_from 0 nothing_read ws m g ls
-turn_start t ws m g ls e = rw e
-
+-- where the inputs' line begins
 pub seat_inside : (k K at seat r : ℕ) → r ≡ cond (eqb K 1) at seat → at ≤ k → seat ≤ k → r ≤ k
 seat_inside k K at seat r e a b = go (eqb K 1) e
   where
     go : (p : Bool) → r ≡ cond p at seat → r ≤ k
     go true q = omega (arith, q, a)
     go false q = omega (arith, q, b)
-
--- a bad line has a fault
-pub not_bad : (t : Text) (m : List ℕ) (s : Says) (f : ℕ) → f ≡ fault_of t m s → f ≡ 0 → s ≡ Bad → ⊥
-unfolding fault_of
-not_bad t m s f q z b = let k : f ≡ 15 = q ∙ ap (fault_of t m) b in omega (arith, k, z)

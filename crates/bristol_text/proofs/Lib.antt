@@ -1,5 +1,4 @@
 pub mod LineLaws
-pub mod CountLaws
 pub mod Faults
 pub mod GoodText
 pub mod Sane

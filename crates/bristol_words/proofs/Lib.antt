@@ -1,4 +1,4 @@
 pub mod PartLaws
-pub mod ReadLaws
 pub mod NextLaws
 pub mod GateLaws
+pub mod NumberLaws

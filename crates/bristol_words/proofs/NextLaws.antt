@@ -7,13 +7,14 @@ use mathlib.Core.List.{List, [], ◌∷◌}
 use Prim.Native.Nat.{ℕ, ◌+◌, ◌-◌, ◌≤◌, ◌<◌}
 use native.Mathlib.Omega.{arith}
 use lib.ListN.{length, take, drop, length-drop}
-use lib.Seq.{drop-drop}
+use lib.Seq.{drop-drop, take_all}
+use Rattle.std.proofs.Common.{take_while}
 use lib.Dec.{eqb}
 use borrow.Author.Tests.{eqb-true, ne_eqb}
-use Rattle.bristol_text.specs.Words.{is_lf, is_gap, words}
+use Rattle.bristol_text.specs.Words.{is_lf, is_gap, words, number}
 use Rattle.bristol_words.specs.declared.Word.{Word}
-use Rattle.bristol_words.specs.Mirror.{lead, is_part, WordAt, Next}
-use Rattle.bristol_words.proofs.PartLaws.{lead_le, line, line_words, gaps_words, gaps_length, part_words, part_length, none_line, none_words, lead_once}
+use Rattle.bristol_words.specs.Mirror.{lead, is_part, told_number, word_in, Next}
+use Rattle.bristol_words.proofs.PartLaws.{while_lead, lead_le, line, line_words, gaps_words, gaps_length, part_words, part_length, none_line, none_words, lead_once}
 
 apart : (b : ℕ) → is_gap b ≡ true → is_lf b ≡ false
 apart b = go (eqb b 32) (eqb b 13) refl refl
@@ -65,16 +66,22 @@ module _ (t : List ℕ) (at a e : ℕ) (h : at ≤ length t) (ha : a ≡ at + le
       let n : e - a ≡ lead is_part (drop a t) = omega arith in
       words_gap ∙ rw (n, after) (part_words is_gap is_lf (drop a t) (omega arith))
 
-pub next_word : (t : List ℕ) (at : ℕ) (r : Word) → at ≤ length t → WordAt t (at + lead is_gap (drop at t)) r → Next t at r
+-- the bytes from a place on, as a part of the slice that ends with it
+whole : (t : List ℕ) (at : ℕ) → take (length t - at) (drop at t) ≡ drop at t
+whole t at = take_all (length t - at) (drop at t) (omega (arith, length-drop at t))
+
+pub lead_part : (p : ℕ → Bool) (t : List ℕ) (at n : ℕ) → n ≡ length (take_while p (take (length t - at) (drop at t))) → n ≡ lead p (drop at t)
+lead_part p t at n h = h ∙ ap (λ s. length (take_while p s)) (whole t at) ∙ while_lead p (drop at t)
+
+pub next_word : (t : List ℕ) (at : ℕ) (r : Word) → at ≤ length t → r.start ≡ at + lead is_gap (drop at t) → r.end ≡ r.start + lead is_part (drop r.start t)
+    → told_number r ≡ number (word_in t r) → Next t at r
 unfolding line line_words words
-next_word t at r h w =
-    let he : r.end ≡ r.start + lead is_part (drop r.start t) = rw w.start w.end in
-    record {
-      above = omega (arith, w.start);
-      order = omega arith;
-      inside = inside t at r.start r.end h w.start he;
-      line = ends t at r.start r.end h w.start he;
-      number = w.number;
-      last = λ q. (last t at r.start r.end h w.start he q, last_end t at r.start r.end h w.start he q);
-      more = λ q. more t at r.start r.end h w.start he q;
-    }
+next_word t at r h s e n = record {
+  above = omega (arith, s);
+  order = omega (arith, e);
+  inside = inside t at r.start r.end h s e;
+  line = ends t at r.start r.end h s e;
+  number = n;
+  last = λ q. (last t at r.start r.end h s e q, last_end t at r.start r.end h s e q);
+  more = λ q. more t at r.start r.end h s e q;
+}

@@ -1,7 +1,6 @@
 -- A list of bytes, by the bytes in front: p tells a gap, q the end of a line.
---     no_gap_byte, gap_byte         a gap by the code's test
+--     while_lead                    the bytes in front that have p, counted
 --     lead_le                       so many bytes there are
---     lead_in, lead_out, lead_end   of the bytes from a place on: a byte that has p, one that has not, no byte
 --     split_at, split_in, split_none    a first byte that parts, one that does not, none
 --     line, line_words              what is left of the line, and its words
 --     gaps_words, gaps_length       gaps in front change no words, and are part of the line
@@ -10,32 +9,15 @@
 --     lead_once                     behind the gaps there is none
 -- Assumes nothing.
 use mathlib.Core.Path.{◌≡◌, refl, ap, ◌∙◌}
-use mathlib.Core.Bool.{Bool, true, false, not, cond, ◌&&◌, ◌||◌}
+use mathlib.Core.Bool.{Bool, true, false, not, cond, ◌||◌}
 use mathlib.Core.List.{List, [], ◌∷◌}
 use Prim.Native.Nat.{ℕ, zero, suc, ◌+◌, ◌≤◌, ◌<◌}
 use native.Mathlib.Omega.{arith}
-use native.Mathlib.Numerals.{add-one}
-use lib.ListN.{length, take, drop, get_or, drop_of_length-le}
-use lib.Seq.{drop-cons}
-use lib.Dec.{eqb}
-use Rattle.bristol_text.specs.Words.{is_gap, split, not_empty}
+use lib.ListN.{length, take, drop}
+use Rattle.std.proofs.Common.{take_while}
+use Rattle.std.proofs.lemmas.List.Sums.{take_while-cons}
+use Rattle.bristol_text.specs.Words.{split, not_empty}
 use Rattle.bristol_words.specs.Mirror.{lead}
-
-pub no_gap_byte : (b : ℕ) → (not (eqb b 32) && not (eqb b 13)) ≡ true → is_gap b ≡ false
-no_gap_byte b = go (eqb b 32) (eqb b 13)
-  where
-    go : (c d : Bool) → (not c && not d) ≡ true → (c || d) ≡ false
-    go true d h = cc
-    go false true h = cc
-    go false false h = refl
-
-pub gap_byte : (b : ℕ) → (not (eqb b 32) && not (eqb b 13)) ≡ false → is_gap b ≡ true
-gap_byte b = go (eqb b 32) (eqb b 13)
-  where
-    go : (c d : Bool) → (not c && not d) ≡ false → (c || d) ≡ true
-    go true d h = refl
-    go false true h = refl
-    go false false h = cc
 
 module _ (p : ℕ → Bool) where
   pub lead_le : (s : List ℕ) → lead p s ≤ length s
@@ -47,17 +29,14 @@ module _ (p : ℕ → Bool) where
       go true h = omega arith
       go false h = omega arith
 
-  pub lead_in : (t : List ℕ) (k : ℕ) → k < length t → p (get_or t k 0) ≡ true → lead p (drop k t) ≡ suc (lead p (drop (k + 1) t))
+  pub while_lead : (s : List ℕ) → length (take_while p s) ≡ lead p s
   unfolding lead
-  lead_in t k h e = rw (drop-cons t k 0 h, e, add-one)
-
-  pub lead_out : (t : List ℕ) (k : ℕ) → k < length t → p (get_or t k 0) ≡ false → lead p (drop k t) ≡ 0
-  unfolding lead
-  lead_out t k h e = rw (drop-cons t k 0 h, e)
-
-  pub lead_end : (t : List ℕ) (k : ℕ) → length t ≤ k → lead p (drop k t) ≡ 0
-  unfolding lead
-  lead_end t k h = rw (drop_of_length-le t h)
+  while_lead [] = refl
+  while_lead (b ∷ s) = ap length (take_while-cons p b s) ∙ go (p b) (while_lead s)
+    where
+      go : (c : Bool) → length (take_while p s) ≡ lead p s → length (cond c (b ∷ take_while p s) []) ≡ cond c (suc (lead p s)) 0
+      go true h = ap suc h
+      go false h = refl
 
   -- a first byte that parts, and one that does not
   pub split_at : (b : ℕ) (s : List ℕ) → p b ≡ true → split p (b ∷ s) ≡ record { head = []; more = (split p s).head ∷ (split p s).more }

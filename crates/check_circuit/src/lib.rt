@@ -1,147 +1,109 @@
-// Checks 4 to 6: one test each, the first fault by index, one loop each; the whole circuit's check, and the answer of the calls behind it.
+// Checks 4 to 6: one test each, the first fault by index, and the whole circuit's check.
 #![tactic(auto)]
 
-ghost use Rattle.std.specs.Prelude.{◌≡◌, ◌+◌, ◌<◌};
+ghost use Rattle.std.specs.Prelude.{◌≡◌, ◌<◌};
 ghost use Rattle.theory_sharing.specs.First.{first};
 ghost use Rattle.theory_calls.specs.Calls.{Check, answers, does};
-ghost use Rattle.file_header.specs.Opened.{Opened};
+ghost use Rattle.check_refusal.specs.Found.{some_below};
 ghost use Rattle.file_header.specs.Answers.{header_answer};
 ghost use Rattle.check_tests.specs.Mirror.{bad_owner, bad_gate, bad_output};
-ghost use Rattle.check_circuit.specs.Mirror.{checked_of, refusal_of};
+ghost use Rattle.check_circuit.specs.Mirror.{checked_of};
 ghost use Rattle.file_parts.specs.Checked.{IsChecked};
 
-use file_header::{Counts, Header};
-use file_parts::{Gate, Output, Owner};
-
-// What a call answers that only fills its buffers: good; a refusal's number and place.
-#[derive(Clone, Copy)]
-pub enum Done {
-    Good,
-    Refused(usize, usize),
-}
+use check_refusal::Refusal;
+use file_header::Counts;
+use file_parts::OpenFile;
 
 // 4: an owner not 1 to 3.
-pub fn owner_bad(file: &[u8], c: Counts, k: usize) -> bool
-    requires { Opened file.now c × (k < c.inputs) }
-    ensures { result ≡ bad_owner file.now k }
+#[tactic(auto, unfolding(check_tests::specs::Mirror::bad_owner))]
+pub fn owner_bad(f: &OpenFile<'_>, k: usize) -> bool
+    requires { k < f.now.counts.inputs }
+    ensures { result ≡ bad_owner f.now.file.now k }
 {
-    let a = file_reader::owner_with(file, c, k);
-    let Owner::Is(o) = a else {
-        return true;
-    };
-    !((1 <= o) & (o <= 3))
+    let owner = f.owner_at(k);
+    !((1 <= owner) & (owner <= 3))
 }
 
 // 5: unknown kind, operand not a lower wire, or NOT with second not 0.
-pub fn gate_bad(file: &[u8], c: Counts, k: usize) -> bool
-    requires { Opened file.now c × (k < c.gates) }
-    ensures { result ≡ bad_gate file.now c.inputs k }
+#[tactic(auto, unfolding(check_tests::specs::Mirror::bad_gate))]
+pub fn gate_bad(f: &OpenFile<'_>, k: usize) -> bool
+    requires { k < f.now.counts.gates }
+    ensures { result ≡ bad_gate f.now.file.now f.now.counts.inputs k }
 {
-    let a = file_reader::gate_with(file, c, k);
-    let Gate::Is(kind, x, y) = a else {
-        return true;
-    };
-    let w = c.inputs + k;
-    check_tests::kind_bad(kind, x, y, w)
+    let gate = f.gate_at(k);
+    check_tests::kind_bad(gate.kind, gate.first, gate.second, f.counts.inputs + k)
 }
 
 // 6: output wire not below W.
-pub fn output_bad(file: &[u8], c: Counts, k: usize) -> bool
-    requires { Opened file.now c × (k < c.outputs) }
-    ensures { result ≡ bad_output file.now c.inputs c.gates k }
+#[tactic(auto, unfolding(check_tests::specs::Mirror::bad_output))]
+pub fn output_bad(f: &OpenFile<'_>, k: usize) -> bool
+    requires { k < f.now.counts.outputs }
+    ensures { result ≡ bad_output f.now.file.now f.now.counts.inputs f.now.counts.gates k }
 {
-    let a = file_reader::output_with(file, c, k);
-    let Output::Is(x) = a else {
-        return true;
-    };
-    let w = c.inputs + c.gates;
-    !((x as usize) < w)
+    let wire = f.output_at(k) as usize;
+    !(wire < f.counts.inputs + f.counts.gates)
 }
 
-// The first bad owner, gate, output; the count where there is none.
-pub fn first_owner(file: &[u8], c: Counts) -> usize
-    requires { Opened file.now c }
-    ensures { result ≡ first (bad_owner file.now) c.inputs }
+// The first bad owner, gate, output. Each asks in a loop of its own: with `find` and a closure a check cost 1.12 of what C costs, with these 1.05,
+// and 1.1 is the bar.
+pub fn first_owner(f: &OpenFile<'_>) -> Option<usize>
+    ensures { result ≡ some_below (first (bad_owner f.now.file.now) f.now.counts.inputs) f.now.counts.inputs }
 {
-    let n = c.inputs;
-    let mut k: usize = 0;
-    while k < n {
-        if owner_bad(file, c, k) {
-            return k;
+    for k in 0..f.counts.inputs {
+        if owner_bad(f, k) {
+            return Some(k);
         }
-        k += 1;
     }
-    n
+    None
 }
 
-pub fn first_gate(file: &[u8], c: Counts) -> usize
-    requires { Opened file.now c }
-    ensures { result ≡ first (bad_gate file.now c.inputs) c.gates }
+pub fn first_gate(f: &OpenFile<'_>) -> Option<usize>
+    ensures { result ≡ some_below (first (bad_gate f.now.file.now f.now.counts.inputs) f.now.counts.gates) f.now.counts.gates }
 {
-    let n = c.gates;
-    let mut k: usize = 0;
-    while k < n {
-        if gate_bad(file, c, k) {
-            return k;
+    for k in 0..f.counts.gates {
+        if gate_bad(f, k) {
+            return Some(k);
         }
-        k += 1;
     }
-    n
+    None
 }
 
-pub fn first_output(file: &[u8], c: Counts) -> usize
-    requires { Opened file.now c }
-    ensures { result ≡ first (bad_output file.now c.inputs c.gates) c.outputs }
+pub fn first_output(f: &OpenFile<'_>) -> Option<usize>
+    ensures { result
+        ≡ some_below (first (bad_output f.now.file.now f.now.counts.inputs f.now.counts.gates) f.now.counts.outputs) f.now.counts.outputs }
 {
-    let n = c.outputs;
-    let mut k: usize = 0;
-    while k < n {
-        if output_bad(file, c, k) {
-            return k;
+    for k in 0..f.counts.outputs {
+        if output_bad(f, k) {
+            return Some(k);
         }
-        k += 1;
     }
-    n
+    None
 }
 
 // Checks 4 to 6 on a file whose header is good.
-fn judge_parts(file: &[u8], c: Counts) -> Header
-    requires { Opened file.now c }
-    ensures { result ≡ checked_of file.now c }
+fn judge_parts(f: &OpenFile<'_>) -> Result<Counts, Refusal>
+    ensures { result ≡ checked_of f.now.file.now f.now.counts }
 {
-    let i = first_owner(file, c);
-    if i < c.inputs {
-        return Header::Refused(4, i);
+    if let Some(input) = first_owner(f) {
+        return Err(Refusal::Owner(input));
     }
-    let g = first_gate(file, c);
-    if g < c.gates {
-        return Header::Refused(5, g);
+    if let Some(gate) = first_gate(f) {
+        return Err(Refusal::Gate(gate));
     }
-    let o = first_output(file, c);
-    if o < c.outputs {
-        return Header::Refused(6, o);
+    if let Some(output) = first_output(f) {
+        return Err(Refusal::Output(output));
     }
-    Header::Good(c)
+    Ok(f.counts)
 }
 
-// PUBLIC. The whole circuit: checks 1 to 6.
-pub fn check_file(file: &[u8]) -> Header
-    ensures result_value { answers (header_answer result) ≡ does (Check file.now) }
+// PUBLIC. The whole circuit: checks 1 to 6. The header's answer is taken apart before any gate is read, and its refusal goes out as it came.
+pub fn check_file(file: &[u8]) -> Result<Counts, Refusal>
+    ensures value { answers (header_answer result) ≡ does (Check file.now) }
     ensures checked { IsChecked result file.now }
 {
-    let h = file_header::read_header(file);
-    let Header::Good(c) = h else {
-        return h;
+    let header = file_header::read_header(file);
+    let Ok(counts) = header else {
+        return header;
     };
-    judge_parts(file, c)
-}
-
-// A circuit's refusal as the answer of such a call. A good header has none; nobody asks.
-pub fn refused(h: Header) -> Done
-    ensures { result ≡ refusal_of h }
-{
-    match h {
-        Header::Good(_) => Done::Refused(0, 0),
-        Header::Refused(n, p) => Done::Refused(n, p),
-    }
+    judge_parts(&OpenFile { file, counts })
 }

@@ -1,24 +1,22 @@
 -- What the proofs of the calls cite about the checks.
 --     counts_are                     an opened file's counts are those that stand in it
 --     ands_are, tapes_are, line_is   what is counted is what the circuit has;  run_sizes: the lengths of a run's buffers
---     found_no, found_yes            what was found, as a verdict
 --     slices_stop, slices_go         7 and 8 in front of the other checks
 -- Assumes nothing.
 use mathlib.Core.Path.{◌≡◌, sym, ap, ◌∙◌}
-use mathlib.Core.Bool.{Bool, cond}
 use mathlib.Core.List.{List, [], ◌∷◌, ◌++◌}
 use Prim.Native.Nat.{ℕ, ◌+◌, ◌*◌}
-use borrow.Author.Tests.{eq-eqb, ne_eqb}
 use Rattle.theory_sharing.specs.Circuit.{ands, all_ands}
 use Rattle.theory_calls.specs.File.{circuit}
-use Rattle.theory_calls.specs.Checks.{Refusal, tapes_want, line_want, Verdict, accepted, refuses, verdict}
+use Rattle.theory_calls.specs.Checks.{Refusal as Row, tapes_want, line_want, accepted, refuses, verdict}
 use Rattle.theory_calls.specs.Calls.{run_wants}
 use Rattle.theory_calls.proofs.Refusals.{accepted_passes, verdict_skips, verdict_stays}
+use Rattle.check_refusal.specs.declared.Refusal.{Refusal}
+use Rattle.check_refusal.specs.Number.{number_of, place_of}
 use Rattle.file_header.specs.declared.Counts.{Counts}
 use Rattle.file_header.specs.Opened.{Opened}
 use Rattle.check_slices.proofs.ChainLaws.{Left}
-use Rattle.check_given.specs.declared.Fault.{Fault}
-use Rattle.check_given.specs.Mirror.{counts_of, slices_checks, found}
+use Rattle.check_given.specs.Mirror.{counts_of, slices_checks}
 
 pub counts_are : (f : List ℕ) (c : Counts) → Opened f c → c ≡ counts_of f
 counts_are f c o = λ i. record { inputs = o.ins_are i; gates = o.gates_are i; outputs = o.outs_are i }
@@ -37,18 +35,10 @@ module _ (f : List ℕ) (c : Counts) (a : ℕ) (op : Opened f c) (ea : a ≡ and
   pub run_sizes : 3 * c.outputs ∷ (4 * c.inputs + 12 * a + 6 * c.outputs) ∷ 6 * (c.inputs + c.gates) ∷ [] ≡ run_wants (circuit f)
   run_sizes = λ i. 3 * op.outs_are i ∷ line_is i ∷ 6 * (op.ins_are i + op.gates_are i) ∷ []
 
--- what was found
-module _ (u : Fault) (v : Verdict) (e : found u ≡ v) where
-  pub found_no : (u.number ≡ 0 → ⊥) → v ≡ refuses u.number u.place
-  found_no n = sym e ∙ ap (λ (b : Bool). cond b accepted (refuses u.number u.place)) (ne_eqb u.number 0 n)
-
-  pub found_yes : u.number ≡ 0 → v ≡ accepted
-  found_yes z = sym e ∙ ap (λ (b : Bool). cond b accepted (refuses u.number u.place)) (eq-eqb u.number 0 z)
-
 -- 7 and 8 in front of other checks
-module _ (f x t : List ℕ) (cs : List Refusal) (u : Fault) (e : found u ≡ verdict (slices_checks f x t)) where
-  pub slices_stop : (u.number ≡ 0 → ⊥) → found u ≡ verdict (slices_checks f x t ++ cs)
-  slices_stop n = let r = found_no u _ e n in e ∙ r ∙ sym (verdict_stays (slices_checks f x t) cs u.number u.place r)
+module _ (f x t : List ℕ) (cs : List Row) where
+  pub slices_stop : (e : Refusal) → refuses (number_of e) (place_of e) ≡ verdict (slices_checks f x t) → refuses (number_of e) (place_of e) ≡ verdict (slices_checks f x t ++ cs)
+  slices_stop e v = sym (verdict_stays (slices_checks f x t) cs (number_of e) (place_of e) (sym v))
 
-  pub slices_go : u.number ≡ 0 → Left (slices_checks f x t ++ cs) cs
-  slices_go z = sym (verdict_skips (slices_checks f x t) cs (accepted_passes (slices_checks f x t) (found_yes u _ e z)))
+  pub slices_go : accepted ≡ verdict (slices_checks f x t) → Left (slices_checks f x t ++ cs) cs
+  slices_go v = sym (verdict_skips (slices_checks f x t) cs (accepted_passes (slices_checks f x t) (sym v)))

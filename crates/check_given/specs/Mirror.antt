@@ -2,14 +2,12 @@
 --     counts_of        the counts that stand in a file
 --     slices_checks    7 and 8 of a circuit's inputs and tapes
 --     run_checks       what a run checks behind its circuit, by the lengths of its buffers
---     found            a refusal's number and place as a verdict: 0 for none
-use Rattle.std.specs.Prelude.{cond, List, [], ◌∷◌, ◌++◌, ℕ, eqb}
+use Rattle.std.specs.Prelude.{List, [], ◌∷◌, ◌++◌, ℕ}
 use Rattle.theory_calls.specs.File.{inputs_of, gates_of, outputs_of, circuit}
-use Rattle.theory_calls.specs.Checks.{Refusal, refusal, row_buffer, tapes_want, line_want, Verdict, accepted, refuses}
+use Rattle.theory_calls.specs.Checks.{Refusal, refusal, row_buffer, tapes_want, line_want}
 use Rattle.theory_calls.specs.AtBits.{bits_row}
 use Rattle.theory_calls.specs.Calls.{run_wants}
 use Rattle.file_header.specs.declared.Counts.{Counts}
-use Rattle.check_given.specs.declared.Fault.{Fault}
 
 abbrev pub counts_of : List ℕ → Counts
 counts_of f = record { inputs = inputs_of f; gates = gates_of f; outputs = outputs_of f }
@@ -20,6 +18,3 @@ slices_checks f x t = refusal 7 (bits_row x (inputs_of f)) ∷ refusal 8 (bits_r
 abbrev pub run_checks : List ℕ → List ℕ → List ℕ → List ℕ → ℕ → ℕ → ℕ → List Refusal
 run_checks f x t l o r s =
     slices_checks f x t ++ (refusal 9 (bits_row l (line_want (circuit f))) ∷ refusal 10 (row_buffer (o ∷ r ∷ s ∷ []) (run_wants (circuit f))) ∷ [])
-
-abbrev pub found : Fault → Verdict
-found r = cond (eqb r.number 0) accepted (refuses r.number r.place)

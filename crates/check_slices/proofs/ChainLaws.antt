@@ -5,19 +5,27 @@
 --     sizes_stop, sizes_go       10, at the lengths of buffers
 --     site_stop, site_go         11
 -- Assumes nothing.
-use mathlib.Core.Path.{◌≡◌, refl, sym, ap, ◌∙◌}
+use mathlib.Core.Path.{◌≡◌, refl, sym, ap, ◌∙◌, subst}
 use mathlib.Core.Bool.{Bool, true, false, not}
 use mathlib.Core.List.{List, [], ◌∷◌}
-use Prim.Native.Nat.{ℕ, ◌<◌, ◌≤◌}
+use Prim.Native.Nat.{ℕ, ◌+◌, ◌<◌}
 use native.Mathlib.Omega.{arith}
-use lib.ListN.{length, get_or}
+use lib.ListN.{length, get_or, length-map}
 use lib.Dec.{eqb}
-use borrow.Author.Tests.{not-true, not-false}
+use Rattle.std.specs.Prelude.{Option, None, Some, Result, Ok, Err, map, position}
 use Rattle.theory_sharing.specs.First.{first}
 use Rattle.theory_calls.specs.Checks.{Refusal, refusal, one_to_three, tested, row_buffer, row_site, fault, accepted, refuses, verdict}
 use Rattle.theory_calls.specs.AtBits.{bits_row}
 use Rattle.theory_calls.proofs.Refusals.{row_refuses, row_passes}
+use Rattle.check_refusal.specs.declared.Refusal.{Refusal as Refused}
+use Rattle.check_refusal.specs.Number.{number_of, place_of}
+use Rattle.check_refusal.specs.Found.{some_below}
+use Rattle.check_refusal.proofs.FoundLaws.{some_found, none_found}
+use Rattle.check_tests.specs.declared.Site.{Site}
+use Rattle.check_tests.specs.Seat.{seated}
 use Rattle.check_tests.specs.Mirror.{wrong_size}
+use Rattle.check_tests.proofs.SeatLaws.{seated_good, seated_bad}
+use Rattle.check_slices.proofs.BitsLaws.{sizes_found}
 
 pub nothing : accepted ≡ verdict []
 unfolding verdict
@@ -27,40 +35,46 @@ module _ (all : List Refusal) where
   abbrev pub Left : List Refusal → Type 0
   Left cs = verdict cs ≡ verdict all
 
-  module _ (n : ℕ) (cs : List Refusal) (l : List ℕ) (have want k : ℕ) (w : have ≡ want) (e : k ≡ fault (bits_row l have)) (p : Left (refusal n (bits_row l want) ∷ cs)) where
-    faulty : k ≡ fault (bits_row l want)
-    faulty = e ∙ ap (λ (z : ℕ). fault (bits_row l z)) w
+  module _ (n : ℕ) (cs : List Refusal) (l : List ℕ) (have want : ℕ) (w : have ≡ want) (p : Left (refusal n (bits_row l want) ∷ cs)) where
+    pub bits_stop : (k : ℕ) → Some k ≡ some_below (fault (bits_row l have)) (have + 1) → refuses n k ≡ verdict all
+    bits_stop k e =
+        let f = some_found k _ _ e in
+        let h : k < have + 1 = subst (λ (z : ℕ). z < have + 1) (sym f.0) f.1 in
+        row_refuses n cs _ k (f.0 ∙ ap (λ (z : ℕ). fault (bits_row l z)) w) (omega (arith, w, h)) ∙ p
 
-    pub bits_stop : k ≤ have → refuses n k ≡ verdict all
-    bits_stop h = row_refuses n cs _ k faulty (omega (arith, w)) ∙ p
+    pub bits_go : ◌≡◌ {A = Option ℕ} None (some_below (fault (bits_row l have)) (have + 1)) → Left cs
+    bits_go e = let f = none_found _ _ e in row_passes n cs _ (fault (bits_row l have)) (ap (λ (z : ℕ). fault (bits_row l z)) w) (omega (arith, w, f)) ∙ p
 
-    pub bits_go : have < k → Left cs
-    bits_go h = row_passes n cs _ k faulty (omega (arith, w)) ∙ p
+  module _ (cs : List Refusal) (bs : List (ℕ × ℕ)) (lengths wanted : List ℕ) (l : map (λ b. b.0) bs ≡ lengths) (w : map (λ b. b.1) bs ≡ wanted)
+      (p : Left (refusal 10 (row_buffer lengths wanted) ∷ cs)) where
+    as_long : length bs ≡ length wanted
+    as_long = sym (length-map bs (λ b. b.1)) ∙ ap length w
 
-  module _ (cs : List Refusal) (lengths have wanted : List ℕ) (k : ℕ) (w : have ≡ wanted) (e : k ≡ first (wrong_size lengths have) (length have)) (p : Left (refusal 10 (row_buffer lengths wanted) ∷ cs)) where
-    sized : k ≡ fault (row_buffer lengths wanted)
+    sized : first (wrong_size (map (λ b. b.0) bs) (map (λ b. b.1) bs)) (length bs) ≡ fault (row_buffer lengths wanted)
     unfolding fault wrong_size
-    sized = e ∙ ap (λ (z : List ℕ). first (λ i. not (eqb (get_or lengths i 0) (get_or z i 0))) (length z)) w
+    sized = λ j. first (λ i. not (eqb (get_or (l j) i 0) (get_or (w j) i 0))) (as_long j)
 
-    as_long : length have ≡ length wanted
-    as_long = ap length w
+    pub sizes_stop : (k : ℕ) → Some k ≡ position (λ b. not (eqb b.0 b.1)) bs → refuses 10 k ≡ verdict all
+    sizes_stop k e =
+        let f = some_found k _ _ (e ∙ sizes_found bs) in
+        let h : k < length bs = subst (λ (z : ℕ). z < length bs) (sym f.0) f.1 in
+        row_refuses 10 cs _ k (f.0 ∙ sized) (omega (arith, as_long, h)) ∙ p
 
-    pub sizes_stop : k < length have → refuses 10 k ≡ verdict all
-    sizes_stop h = row_refuses 10 cs _ k sized (omega (arith, as_long)) ∙ p
+    pub sizes_go : ◌≡◌ {A = Option ℕ} None (position (λ b. not (eqb b.0 b.1)) bs) → Left cs
+    sizes_go e = let f = none_found _ _ (e ∙ sizes_found bs) in row_passes 10 cs _ _ sized (omega (arith, as_long, f)) ∙ p
 
-    pub sizes_go : length have ≤ k → Left cs
-    sizes_go h = row_passes 10 cs _ k sized (omega (arith, as_long)) ∙ p
-
-  module _ (cs : List Refusal) (s : ℕ) (b : Bool) (e : b ≡ one_to_three s) (p : Left (refusal 11 (row_site s) ∷ cs)) where
+  module _ (cs : List Refusal) (s : ℕ) (p : Left (refusal 11 (row_site s) ∷ cs)) where
     -- the test's value tells the fault
-    site_fault : (t : Bool) → b ≡ t → fault (row_site s) ≡ first (tested ((0, not t) ∷ [])) 1
+    site_fault : (t : Bool) → one_to_three s ≡ t → fault (row_site s) ≡ first (tested ((0, not t) ∷ [])) 1
     unfolding fault
-    site_fault t q = ap (λ (z : Bool). first (tested ((0, not z) ∷ [])) 1) (sym e ∙ q)
+    site_fault t q = ap (λ (z : Bool). first (tested ((0, not z) ∷ [])) 1) q
 
-    pub site_stop : not b ≡ true → refuses 11 0 ≡ verdict all
+    pub site_stop : (d : Refused) → Err d ≡ seated s → refuses (number_of d) (place_of d) ≡ verdict all
     unfolding first tested
-    site_stop h = row_refuses 11 cs _ 0 (sym (site_fault false (not-true b h))) (omega arith) ∙ p
+    site_stop d e =
+        let f = seated_bad s d e in
+        (λ i. refuses (number_of (f.1 i)) (place_of (f.1 i))) ∙ row_refuses 11 cs _ 0 (sym (site_fault false f.0)) (omega arith) ∙ p
 
-    pub site_go : not b ≡ false → Left cs
+    pub site_go : (t : Site) → Ok t ≡ seated s → Left cs
     unfolding first tested
-    site_go h = row_passes 11 cs _ 1 (sym (site_fault true (not-false b h))) (omega arith) ∙ p
+    site_go t e = row_passes 11 cs _ 1 (sym (site_fault true (seated_good s t e))) (omega arith) ∙ p

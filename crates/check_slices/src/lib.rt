@@ -1,100 +1,58 @@
 // Checks 7 to 10, 12 and 14: the first fault of a slice of bits, of the buffers' lengths, of a job's header.
 #![tactic(auto)]
 
-ghost use Rattle.std.specs.Prelude.{◌≡◌, ◌+◌, ◌<◌, ◌≤◌, length};
-ghost use Rattle.theory_sharing.specs.First.{first};
-ghost use Rattle.theory_calls.specs.Checks.{fault};
+ghost use Rattle.std.specs.Prelude.{◌≡◌, ◌+◌, not, length, leb, eqb, position};
+ghost use Rattle.theory_calls.specs.Checks.{fault, row_job};
 ghost use Rattle.theory_calls.specs.AtBits.{bits_row};
-ghost use Rattle.check_tests.specs.Mirror.{above, wrong_size};
-ghost use Rattle.check_slices.specs.Mirror.{Under, job_fault_of};
-
-// The larger of two bytes.
-fn larger(x: u8, y: u8) -> u8
-    ensures { (x ≤ result) × (y ≤ result) }
-{
-    if x < y {
-        return y;
-    }
-    x
-}
+ghost use Rattle.check_refusal.specs.Found.{some_below};
+ghost use Rattle.check_slices.specs.Mirror.{Under};
 
 // No byte of the slice is above the answer. Nothing stops this loop in the middle, so that a compiler may take many bytes at a time.
 fn largest(s: &[u8]) -> u8
     ensures { Under s.now result (length s.now) }
 {
-    let n = s.len();
-    let mut m: u8 = 0;
-    let mut k: usize = 0;
-    while k < n {
-        m = larger(m, s[k]);
-        k += 1;
+    let mut most = 0u8;
+    for byte in s {
+        most = most.max(*byte);
     }
-    m
+    most
 }
 
-// The first byte above 1, or n, looked for byte by byte.
-fn find_above(s: &[u8], n: usize) -> usize
-    requires { length s.now ≡ n }
-    ensures { result ≡ first (above s.now) n }
-{
-    let mut k: usize = 0;
-    while k < n {
-        if check_tests::byte_above(s, k) {
-            return k;
-        }
-        k += 1;
-    }
-    n
-}
-
-// The first byte above 1, or n. As a rule there is none, and then no byte is looked at alone.
-pub fn first_above(s: &[u8], n: usize) -> usize
-    requires { length s.now ≡ n }
-    ensures { result ≡ first (above s.now) n }
+// The first byte above 1. As a rule there is none, and then no byte is looked at alone.
+pub fn first_above(s: &[u8]) -> Option<usize>
+    ensures { result ≡ position (λ b. not (leb b 1)) s.now }
 {
     if largest(s) <= 1 {
-        return n;
+        return None;
     }
-    find_above(s, n)
+    s.iter().position(|byte| check_tests::above_one(*byte))
 }
 
-// 7, 8, 9, 12: the place of the fault of a slice of bits, the wanted length or an index; one above the wanted length where there is none.
-pub fn bits_fault(s: &[u8], want: usize) -> usize
-    requires { want ≤ 65536 }
-    ensures { result ≡ fault (bits_row s.now want) }
+// 7, 8, 9, 12: the place of the fault of a slice of bits, the wanted length or an index.
+pub fn bits_fault(s: &[u8], want: usize) -> Option<usize>
+    ensures { result ≡ some_below (fault (bits_row s.now want)) (want + 1) }
 {
     if s.len() != want {
-        return want;
+        return Some(want);
     }
-    let k = first_above(s, want);
-    if k < want {
-        return k;
-    }
-    want + 1
+    first_above(s)
 }
 
-// 10: the first buffer that has not its length, by number, or how many there are.
-pub fn first_size(sizes: &[usize], wants: &[usize]) -> usize
-    requires { length sizes.now ≡ length wants.now }
-    ensures { result ≡ first (wrong_size sizes.now wants.now) (length wants.now) }
+// 10: the first buffer that has not its length, by number; of each its length and the one that it should have.
+pub fn first_size(buffers: &[(usize, usize)]) -> Option<usize>
+    ensures { result ≡ position (λ b. not (eqb b.0 b.1)) buffers.now }
 {
-    let n = wants.len();
-    let mut k: usize = 0;
-    while k < n {
-        if check_tests::size_wrong(sizes, wants, k) {
-            return k;
-        }
-        k += 1;
-    }
-    n
+    buffers
+        .iter()
+        .position(|b| check_tests::size_wrong(b.0, b.1))
 }
 
-// 14: the place of the fault of a job's header, or 13.
-pub fn job_fault(job: &[u8]) -> usize
-    ensures { result ≡ job_fault_of job.now }
+// 14: the place of the fault of a job's header.
+pub fn job_fault(job: &[u8]) -> Option<usize>
+    ensures { result ≡ some_below (fault (row_job job.now)) 13 }
 {
     if job.len() < 16 {
-        return 0;
+        return Some(0);
     }
     check_tests::judge_job(
         job.len(),

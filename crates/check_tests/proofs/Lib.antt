@@ -1,2 +1,3 @@
 pub mod TestLaws
 pub mod JobLaws
+pub mod SeatLaws

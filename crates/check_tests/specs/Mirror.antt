@@ -1,7 +1,7 @@
 -- What the tests compute. No public contract cites these: laws tie them to the calls of theory_calls.
 --     bad_owner, bad_gate, bad_output, above, wrong_size    the tests of 4, 5, 6, of 7, 8, 9, 12, and of 10
 --     job_place             14 on a job's length and numbers
---     deals, site_no        1 for a kind that deals; the site that a number stands for
+--     deals                 1 for a kind that deals
 use Rattle.std.specs.Prelude.{Bool, not, cond, ◌&&◌, List, ℕ, ◌+◌, get_or, leb, ltb, eqb}
 use Rattle.theory_calls.specs.File.{kind_at, first_at, second_at, owner_at, output_at}
 use Rattle.theory_calls.specs.Checks.{one_to_three, good_gate}
@@ -32,6 +32,3 @@ job_place n a b c d =
 -- 1 for a kind that deals: any but XOR and NOT
 unfoldable pub deals : ℕ → ℕ
 deals kind = cond (eqb kind 1) 0 (cond (eqb kind 3) 0 1)
-
-unfoldable pub site_no : ℕ → ℕ
-site_no x = cond (eqb x 1) 1 (cond (eqb x 2) 2 3)

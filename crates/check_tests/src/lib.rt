@@ -1,19 +1,59 @@
-// One test each, on numbers and bytes: what refusals 5, 10, 11 and 14 and "a byte above 1" ask of a gate's numbers, a size, a site, a job header or a byte;
+// One test each, on numbers and bytes: what refusals 5, 11 and 14 and "a byte above 1" ask of a gate's numbers, a site, a job header or a byte;
 // and what is counted of one gate.
 #![tactic(auto)]
 
-ghost use Rattle.std.specs.Prelude.{◌≡◌, cond, ◌<◌, ◌≤◌, length, eqb};
-ghost use Rattle.theory_calls.specs.Checks.{one_to_three};
-ghost use Rattle.check_tests.specs.Mirror.{bad_kind, above, wrong_size, job_place, deals, site_no};
+ghost use Rattle.std.specs.Prelude.{◌≡◌, not, cond, ◌<◌, ◌≤◌, leb, eqb};
+ghost use Rattle.check_refusal.specs.Found.{some_below};
+ghost use Rattle.check_tests.specs.Mirror.{bad_kind, job_place, deals};
+
+use check_refusal::Refusal;
+
+// One of the three sites.
+#[derive(Clone, Copy, Debug, PartialEq, Eq)]
+pub enum Site {
+    One,
+    Two,
+    Three,
+}
+
+// 11: a site is 1, 2 or 3.
+impl TryFrom<usize> for Site {
+    type Error = Refusal;
+
+    ghost use Rattle.check_tests.specs.Seat.{seated};
+
+    ghost try_from_gives = { λ n r. r ≡ seated n };
+
+    fn try_from(site: usize) -> Result<Site, Refusal> {
+        match site {
+            1 => Ok(Site::One),
+            2 => Ok(Site::Two),
+            3 => Ok(Site::Three),
+            _ => Err(Refusal::Site),
+        }
+    }
+}
+
+impl Site {
+    ghost use Rattle.check_tests.specs.Seat.{number_of};
+
+    // The number that stands for it.
+    pub fn number(self) -> u8
+        ensures { result ≡ number_of self }
+    {
+        match self {
+            Site::One => 1,
+            Site::Two => 2,
+            Site::Three => 3,
+        }
+    }
+}
 
 // What a gate's second number must be below: NOT has 0 there.
 fn second_limit(kind: u16, w: usize) -> usize
     ensures { result ≡ cond (eqb kind 3) 1 w }
 {
-    if kind != 3 {
-        return w;
-    }
-    1
+    if kind == 3 { 1 } else { w }
 }
 
 // 5: unknown kind, operand not a lower wire, or NOT with second not 0.
@@ -25,55 +65,46 @@ pub fn kind_bad(kind: u16, a: u16, b: u16, w: usize) -> bool
 }
 
 // 7, 8, 9, 12: a byte above 1.
-pub fn byte_above(s: &[u8], k: usize) -> bool
-    requires { k < length s.now }
-    ensures { result ≡ above s.now k }
+pub fn above_one(byte: u8) -> bool
+    ensures { result ≡ not (leb byte 1) }
 {
-    !(s[k] <= 1)
+    !(byte <= 1)
 }
 
 // 10: a buffer that has not its length.
-pub fn size_wrong(sizes: &[usize], wants: &[usize], k: usize) -> bool
-    requires { (k < length sizes.now) × (k < length wants.now) }
-    ensures { result ≡ wrong_size sizes.now wants.now k }
+pub fn size_wrong(size: usize, want: usize) -> bool
+    ensures { result ≡ not (eqb size want) }
 {
-    !(sizes[k] == wants[k])
+    !(size == want)
 }
 
-// 11: a site that is 1, 2 or 3.
-pub fn site_good(site: usize) -> bool
-    ensures { result ≡ one_to_three site }
-{
-    (1 <= site) & (site <= 3)
-}
-
-// 14 on the job's length and its four numbers: the place, or 13 where the header is good. Offsets are compared and never added to.
+// 14 on the job's length and its four numbers: the place of what is wrong. Offsets are compared and never added to.
 #[tactic(auto, using(crate::proofs::JobLaws::job_laws))]
-pub fn judge_job(n: usize, a: u32, b: u32, c: u32, d: u32) -> usize
-    ensures { result ≡ job_place n a b c d }
+pub fn judge_job(n: usize, a: u32, b: u32, c: u32, d: u32) -> Option<usize>
+    ensures { result ≡ some_below (job_place n a b c d) 13 }
 {
     if n > 41520 {
-        return 0;
+        return Some(0);
     }
     if a as usize != n {
-        return 0;
+        return Some(0);
     }
     if b != 16 {
-        return 4;
+        return Some(4);
     }
     if c < 16 {
-        return 8;
+        return Some(8);
     }
     if c as usize > n {
-        return 8;
+        return Some(8);
     }
     if d < c {
-        return 12;
+        return Some(12);
     }
     if d as usize > n {
-        return 12;
+        return Some(12);
     }
-    13
+    None
 }
 
 // 1 for a gate that deals, AND or OR, else 0. Of the four kinds those two are the even ones: no branch by the kind.
@@ -83,17 +114,4 @@ pub fn deal_bit(kind: u16) -> usize
 {
     let odd = kind & 1;
     1 - odd as usize
-}
-
-// The site that a number stands for: 1, 2, and 3 for any other.
-pub fn site_number(x: usize) -> usize
-    ensures { result ≡ site_no x }
-{
-    if x == 1 {
-        return 1;
-    }
-    if x == 2 {
-        return 2;
-    }
-    3
 }

@@ -4,11 +4,14 @@
 --     TellsBy, Tells                     a struct that has the answer, with all lent buffers as they are afterwards, is what the call does; with told
 --     told_counts .. told_output         the answers that have values: 0 each where there are none
 --     told_traffic                       the answer, and the table's rows one after the other
+--     length_answer                      the length of a text or a file, or a refusal
 --     told_listing, TellsText            the answer, and the length of the text in the lent buffer; with the buffer
 --     told_file, TellsFile               likewise of a file in a lent room
-use Rattle.std.specs.Prelude.{◌≡◌, List, [], ◌∷◌, ℕ, get_or}
+use Rattle.std.specs.Prelude.{◌≡◌, List, [], ◌∷◌, ℕ, get_or, Result, Ok, Err}
 use Rattle.theory_calls.specs.Answer.{Answer as Said, good, abort, refused, After, number_of, place_of}
 use Rattle.theory_calls.specs.Calls.{Call, does}
+use Rattle.check_refusal.specs.declared.Refusal.{Refusal}
+use Rattle.check_refusal.specs.Number.{refused_by}
 use Rattle.door_answers.specs.declared.Answer.{Answer}
 use Rattle.door_answers.specs.declared.CountsAnswer.{CountsAnswer}
 use Rattle.door_answers.specs.declared.GateAnswer.{GateAnswer}
@@ -70,6 +73,11 @@ nine t =
 
 abbrev pub told_traffic : After → TrafficAnswer
 told_traffic a = record { number = number_of a.answer; place = place_of a.answer; bits = nine a.returned }
+
+-- the answer of a call that tells a length: the listing's, and that of a text
+unfoldable pub length_answer : Result ℕ Refusal → Said
+length_answer (Ok n) = good (n ∷ [])
+length_answer (Err e) = refused_by e
 
 abbrev pub told_listing : Said → ListingAnswer
 told_listing a = record { number = number_of a; place = place_of a; length = value_of 0 a }

@@ -2,20 +2,19 @@
 // place.
 #![tactic(auto)]
 
-ghost use Rattle.std.specs.Prelude.{◌≡◌, [], ◌≤◌};
-ghost use Rattle.theory_calls.specs.Answer.{good, abort, refused};
-ghost use Rattle.file_header.specs.Answers.{header_answer};
-ghost use Rattle.file_parts.specs.Answers.{gate_answer, owner_answer, output_answer};
-ghost use Rattle.door_answers.specs.Told.{told, told_counts, told_gate, told_owner, told_output, nine};
+ghost use Rattle.std.specs.Prelude.{◌≡◌, ◌≤◌};
+ghost use Rattle.check_refusal.specs.Number.{number_of, place_of};
+ghost use Rattle.door_answers.specs.Told.{nine};
 ghost use Rattle.door_answers.specs.Sizes.{no_sizes};
 ghost use Rattle.door_answers.specs.Mirror.{sizes_from};
 
-use file_header::{Counts, Header};
-use file_parts::{Gate, Output, Owner};
+use check_refusal::Refusal;
+use file_header::Counts;
+use file_parts::Gate;
 
 // The answer of plain values, run, view and re-taping: number and place; for an abort (100) place is the output, and sites the objecting ones.
 #[repr(C)]
-#[derive(Clone, Copy)]
+#[derive(Clone, Copy, Debug, PartialEq, Eq)]
 pub struct Answer {
     pub number: usize,
     pub place: usize,
@@ -24,7 +23,7 @@ pub struct Answer {
 
 // The answer of open and check.
 #[repr(C)]
-#[derive(Clone, Copy)]
+#[derive(Clone, Copy, Debug, PartialEq, Eq)]
 pub struct CountsAnswer {
     pub number: usize,
     pub place: usize,
@@ -35,7 +34,7 @@ pub struct CountsAnswer {
 
 // The answers to the reader's three questions.
 #[repr(C)]
-#[derive(Clone, Copy)]
+#[derive(Clone, Copy, Debug, PartialEq, Eq)]
 pub struct GateAnswer {
     pub number: usize,
     pub place: usize,
@@ -45,7 +44,7 @@ pub struct GateAnswer {
 }
 
 #[repr(C)]
-#[derive(Clone, Copy)]
+#[derive(Clone, Copy, Debug, PartialEq, Eq)]
 pub struct OwnerAnswer {
     pub number: usize,
     pub place: usize,
@@ -53,7 +52,7 @@ pub struct OwnerAnswer {
 }
 
 #[repr(C)]
-#[derive(Clone, Copy)]
+#[derive(Clone, Copy, Debug, PartialEq, Eq)]
 pub struct OutputAnswer {
     pub number: usize,
     pub place: usize,
@@ -62,7 +61,7 @@ pub struct OutputAnswer {
 
 // The traffic table, three senders by three receivers, row after row.
 #[repr(C)]
-#[derive(Clone, Copy)]
+#[derive(Clone, Copy, Debug, PartialEq, Eq)]
 pub struct TrafficAnswer {
     pub number: usize,
     pub place: usize,
@@ -71,7 +70,7 @@ pub struct TrafficAnswer {
 
 // How many bytes of the lent buffer are text.
 #[repr(C)]
-#[derive(Clone, Copy)]
+#[derive(Clone, Copy, Debug, PartialEq, Eq)]
 pub struct ListingAnswer {
     pub number: usize,
     pub place: usize,
@@ -80,7 +79,7 @@ pub struct ListingAnswer {
 
 // How many bytes of the lent room are the file.
 #[repr(C)]
-#[derive(Clone, Copy)]
+#[derive(Clone, Copy, Debug, PartialEq, Eq)]
 pub struct FileAnswer {
     pub number: usize,
     pub place: usize,
@@ -89,7 +88,7 @@ pub struct FileAnswer {
 
 // The lengths of all slices and buffers that go with a circuit; the view's by site.
 #[repr(C)]
-#[derive(Clone, Copy)]
+#[derive(Clone, Copy, Debug, PartialEq, Eq)]
 pub struct SizesAnswer {
     pub number: usize,
     pub place: usize,
@@ -104,111 +103,194 @@ pub struct SizesAnswer {
     pub room: usize,
 }
 
-// The three cases of an answer.
-pub fn good_told() -> Answer
-    ensures { result ≡ told (good []) }
+// A refusal's number and place, as they stand in front in every struct. What stands behind them is then 0.
+fn numbers(e: Refusal) -> (usize, usize)
+    ensures { result ≡ (number_of e, place_of e) }
 {
-    Answer {
-        number: 0,
-        place: 0,
-        sites: 0,
-    }
+    (e.number(), e.place())
 }
 
-pub fn abort_told(output: usize, sites: usize) -> Answer
-    ensures { result ≡ told (abort output sites) }
-{
-    Answer {
-        number: 100,
-        place: output,
-        sites,
-    }
-}
+impl From<Refusal> for Answer {
+    ghost use Rattle.check_refusal.specs.Number.{refused_by};
+    ghost use Rattle.door_answers.specs.Told.{told};
 
-pub fn refused_told(number: usize, place: usize) -> Answer
-    ensures { result ≡ told (refused number place) }
-{
-    Answer {
-        number,
-        place,
-        sites: 0,
-    }
-}
+    ghost from_gives = { λ e a. a ≡ told (refused_by e) };
 
-// The enums of open and check and of the reader's three questions.
-pub fn header_told(h: Header) -> CountsAnswer
-    ensures { result ≡ told_counts (header_answer h) }
-{
-    match h {
-        Header::Good(c) => CountsAnswer {
-            number: 0,
-            place: 0,
-            inputs: c.inputs,
-            gates: c.gates,
-            outputs: c.outputs,
-        },
-        Header::Refused(number, place) => CountsAnswer {
+    fn from(e: Refusal) -> Answer {
+        let (number, place) = numbers(e);
+        Answer {
             number,
             place,
-            inputs: 0,
-            gates: 0,
-            outputs: 0,
-        },
+            sites: 0,
+        }
     }
 }
 
-pub fn gate_told(a: Gate) -> GateAnswer
-    ensures { result ≡ told_gate (gate_answer a) }
-{
-    match a {
-        Gate::Is(kind, first, second) => GateAnswer {
-            number: 0,
-            place: 0,
-            kind,
-            first,
-            second,
-        },
-        Gate::Refused(number, place) => GateAnswer {
-            number,
-            place,
-            kind: 0,
-            first: 0,
-            second: 0,
-        },
+// Of a call that only fills its buffers.
+impl From<Result<(), Refusal>> for Answer {
+    ghost use Rattle.check_circuit.specs.Answers.{done_answer};
+    ghost use Rattle.door_answers.specs.Told.{told};
+
+    ghost from_gives = { λ r a. a ≡ told (done_answer r) };
+
+    fn from(r: Result<(), Refusal>) -> Answer {
+        match r {
+            Ok(()) => Answer {
+                number: 0,
+                place: 0,
+                sites: 0,
+            },
+            Err(e) => Answer::from(e),
+        }
     }
 }
 
-pub fn owner_told(a: Owner) -> OwnerAnswer
-    ensures { result ≡ told_owner (owner_answer a) }
-{
-    match a {
-        Owner::Is(owner) => OwnerAnswer {
-            number: 0,
-            place: 0,
-            owner,
-        },
-        Owner::Refused(number, place) => OwnerAnswer {
-            number,
-            place,
-            owner: 0,
-        },
+// Of open and check, and of the reader's three questions.
+impl From<Result<Counts, Refusal>> for CountsAnswer {
+    ghost use Rattle.file_header.specs.Answers.{header_answer};
+    ghost use Rattle.door_answers.specs.Told.{told_counts};
+
+    ghost from_gives = { λ r a. a ≡ told_counts (header_answer r) };
+
+    fn from(r: Result<Counts, Refusal>) -> CountsAnswer {
+        match r {
+            Ok(c) => CountsAnswer {
+                number: 0,
+                place: 0,
+                inputs: c.inputs,
+                gates: c.gates,
+                outputs: c.outputs,
+            },
+            Err(e) => {
+                let (number, place) = numbers(e);
+                CountsAnswer {
+                    number,
+                    place,
+                    inputs: 0,
+                    gates: 0,
+                    outputs: 0,
+                }
+            }
+        }
     }
 }
 
-pub fn output_told(a: Output) -> OutputAnswer
-    ensures { result ≡ told_output (output_answer a) }
-{
-    match a {
-        Output::Is(wire) => OutputAnswer {
-            number: 0,
-            place: 0,
-            wire,
-        },
-        Output::Refused(number, place) => OutputAnswer {
-            number,
-            place,
-            wire: 0,
-        },
+impl From<Result<Gate, Refusal>> for GateAnswer {
+    ghost use Rattle.file_parts.specs.Answers.{gate_answer};
+    ghost use Rattle.door_answers.specs.Told.{told_gate};
+
+    ghost from_gives = { λ r a. a ≡ told_gate (gate_answer r) };
+
+    fn from(r: Result<Gate, Refusal>) -> GateAnswer {
+        match r {
+            Ok(g) => GateAnswer {
+                number: 0,
+                place: 0,
+                kind: g.kind,
+                first: g.first,
+                second: g.second,
+            },
+            Err(e) => {
+                let (number, place) = numbers(e);
+                GateAnswer {
+                    number,
+                    place,
+                    kind: 0,
+                    first: 0,
+                    second: 0,
+                }
+            }
+        }
+    }
+}
+
+impl From<Result<u8, Refusal>> for OwnerAnswer {
+    ghost use Rattle.file_parts.specs.Answers.{owner_answer};
+    ghost use Rattle.door_answers.specs.Told.{told_owner};
+
+    ghost from_gives = { λ r a. a ≡ told_owner (owner_answer r) };
+
+    fn from(r: Result<u8, Refusal>) -> OwnerAnswer {
+        match r {
+            Ok(owner) => OwnerAnswer {
+                number: 0,
+                place: 0,
+                owner,
+            },
+            Err(e) => {
+                let (number, place) = numbers(e);
+                OwnerAnswer {
+                    number,
+                    place,
+                    owner: 0,
+                }
+            }
+        }
+    }
+}
+
+impl From<Result<u16, Refusal>> for OutputAnswer {
+    ghost use Rattle.file_parts.specs.Answers.{output_answer};
+    ghost use Rattle.door_answers.specs.Told.{told_output};
+
+    ghost from_gives = { λ r a. a ≡ told_output (output_answer r) };
+
+    fn from(r: Result<u16, Refusal>) -> OutputAnswer {
+        match r {
+            Ok(wire) => OutputAnswer {
+                number: 0,
+                place: 0,
+                wire,
+            },
+            Err(e) => {
+                let (number, place) = numbers(e);
+                OutputAnswer {
+                    number,
+                    place,
+                    wire: 0,
+                }
+            }
+        }
+    }
+}
+
+// Of the listing, with the length of its text, and of a text, with that of its file.
+impl From<Result<usize, Refusal>> for ListingAnswer {
+    ghost use Rattle.door_answers.specs.Told.{length_answer, told_listing};
+
+    ghost from_gives = { λ r a. a ≡ told_listing (length_answer r) };
+
+    fn from(r: Result<usize, Refusal>) -> ListingAnswer {
+        match r {
+            Ok(length) => ListingAnswer {
+                number: 0,
+                place: 0,
+                length,
+            },
+            Err(e) => {
+                let (number, place) = numbers(e);
+                ListingAnswer {
+                    number,
+                    place,
+                    length: 0,
+                }
+            }
+        }
+    }
+}
+
+impl From<Result<usize, Refusal>> for FileAnswer {
+    ghost use Rattle.door_answers.specs.Told.{length_answer, told_file};
+
+    ghost from_gives = { λ r a. a ≡ told_file (length_answer r) };
+
+    fn from(r: Result<usize, Refusal>) -> FileAnswer {
+        let told = ListingAnswer::from(r);
+        FileAnswer {
+            number: told.number,
+            place: told.place,
+            length: told.length,
+        }
     }
 }
 
@@ -252,9 +334,10 @@ pub fn sizes_from(c: Counts, a: usize, s1: usize, s2: usize, s3: usize) -> Sizes
 }
 
 // A refusal of the circuit: there are no lengths.
-pub fn no_sizes(number: usize, place: usize) -> SizesAnswer
-    ensures { result ≡ no_sizes number place }
+pub fn no_sizes(e: Refusal) -> SizesAnswer
+    ensures { result ≡ no_sizes (number_of e) (place_of e) }
 {
+    let (number, place) = numbers(e);
     SizesAnswer {
         number,
         place,

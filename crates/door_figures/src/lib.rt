@@ -7,16 +7,15 @@ ghost use Rattle.door_answers.specs.Told.{told_traffic, TellsText};
 ghost use Rattle.door_answers.specs.Sizes.{sized};
 
 use door_answers::{ListingAnswer, SizesAnswer, TrafficAnswer};
-use file_header::Header;
+use file_reader::Circuit;
 
 // The lengths of all slices and buffers that go with a circuit: checks 1 to 6, and what the calls' own checks ask for.
 pub fn sizes_for_c(file: &[u8]) -> SizesAnswer
     ensures { result ≡ sized file.now (does (Check file.now)).answer }
 {
-    let h = check_circuit::check_file(file);
-    match h {
-        Header::Good(c) => door_replies::sizes(file, c),
-        Header::Refused(number, place) => door_answers::no_sizes(number, place),
+    match check_circuit::check_file(file) {
+        Ok(counts) => door_replies::sizes(&Circuit { file, counts }),
+        Err(e) => door_answers::no_sizes(e),
     }
 }
 
@@ -39,6 +38,5 @@ pub fn traffic_for_c(file: &[u8]) -> TrafficAnswer
 pub fn listing_for_c(job: &[u8], text: &mut [u8]) -> ListingAnswer
     ensures { TellsText result (text.new ∷ []) (Listing job.now text.old) }
 {
-    let a = listing::listing(job, text);
-    door_replies::text_told(a)
+    ListingAnswer::from(listing::listing(job, text))
 }

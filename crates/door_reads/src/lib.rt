@@ -11,38 +11,33 @@ use door_answers::{CountsAnswer, GateAnswer, OutputAnswer, OwnerAnswer};
 pub fn open_for_c(file: &[u8]) -> CountsAnswer
     ensures { result ≡ told_counts (does (Open file.now)).answer }
 {
-    let h = file_header::open_file(file);
-    door_answers::header_told(h)
+    CountsAnswer::from(file_header::open_file(file))
 }
 
 // Gate k of a file.
 pub fn gate_for_c(file: &[u8], k: usize) -> GateAnswer
     ensures { result ≡ told_gate (does (GateAt file.now k)).answer }
 {
-    let a = file_reader::gate_of(file, k);
-    door_answers::gate_told(a)
+    GateAnswer::from(file_reader::gate_of(file, k))
 }
 
 // The owner of input k of a file.
 pub fn owner_for_c(file: &[u8], k: usize) -> OwnerAnswer
     ensures { result ≡ told_owner (does (OwnerAt file.now k)).answer }
 {
-    let a = file_reader::owner_of(file, k);
-    door_answers::owner_told(a)
+    OwnerAnswer::from(file_reader::owner_of(file, k))
 }
 
 // The wire of output k of a file.
 pub fn output_for_c(file: &[u8], k: usize) -> OutputAnswer
     ensures { result ≡ told_output (does (OutputAt file.now k)).answer }
 {
-    let a = file_reader::output_of(file, k);
-    door_answers::output_told(a)
+    OutputAnswer::from(file_reader::output_of(file, k))
 }
 
 // The whole circuit: checks 1 to 6, and the counts.
 pub fn check_for_c(file: &[u8]) -> CountsAnswer
     ensures { result ≡ told_counts (does (Check file.now)).answer }
 {
-    let h = check_circuit::check_file(file);
-    door_answers::header_told(h)
+    CountsAnswer::from(check_circuit::check_file(file))
 }

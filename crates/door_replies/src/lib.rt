@@ -1,67 +1,46 @@
-// What the calls answer, as the structs that C gets: their enums, the lengths for a circuit, the listing's text.
+// What the run answers, as the struct that C gets, and the lengths for a circuit. The other answers are made in door_answers, beside their
+// structs: this one is about the run's own type, and stands above both.
 #![tactic(auto)]
 
 ghost use Rattle.std.specs.Prelude.{◌≡◌};
 ghost use Rattle.theory_calls.specs.File.{circuit};
-ghost use Rattle.file_parts.specs.Checked.{Checked};
-ghost use Rattle.check_circuit.specs.Answers.{done_answer};
 ghost use Rattle.run.specs.Answers.{run_answer};
-ghost use Rattle.listing.specs.Answers.{listed_answer};
-ghost use Rattle.door_answers.specs.Told.{told, told_listing};
+ghost use Rattle.door_answers.specs.Told.{told};
 ghost use Rattle.door_answers.specs.Sizes.{sizes_of};
 
-use check_circuit::Done;
-use door_answers::{Answer, ListingAnswer, SizesAnswer};
-use file_header::Counts;
-use listing::Listed;
+use check_refusal::Refusal;
+use check_tests::Site;
+use door_answers::{Answer, SizesAnswer};
+use file_reader::Circuit;
 use run::Ran;
 
-// Each call's enum, as numbers.
-pub fn done_told(a: Done) -> Answer
-    ensures { result ≡ told (done_answer a) }
-{
-    match a {
-        Done::Good => door_answers::good_told(),
-        Done::Refused(number, place) => door_answers::refused_told(number, place),
-    }
-}
-
-pub fn run_told(a: Ran) -> Answer
+// The run's answer, as numbers.
+#[tactic(auto, unfolding(theory_calls::specs::Answer::number_of, theory_calls::specs::Answer::place_of, door_answers::specs::Told::sites_of, run::specs::Answers::run_answer))]
+pub fn run_told(a: Result<Ran, Refusal>) -> Answer
     ensures { result ≡ told (run_answer a) }
 {
     match a {
-        Ran::Good => door_answers::good_told(),
-        Ran::Abort(output, sites) => door_answers::abort_told(output, sites),
-        Ran::Refused(number, place) => door_answers::refused_told(number, place),
+        Ok(Ran::Good) => Answer {
+            number: 0,
+            place: 0,
+            sites: 0,
+        },
+        Ok(Ran::Abort(output, sites)) => Answer {
+            number: 100,
+            place: output,
+            sites,
+        },
+        Err(e) => Answer::from(e),
     }
 }
 
 // The lengths for a circuit that was checked.
-pub fn sizes(file: &[u8], c: Counts) -> SizesAnswer
-    requires { Checked file.now c }
-    ensures { result ≡ sizes_of (circuit file.now) }
+pub fn sizes(c: &Circuit<'_>) -> SizesAnswer
+    ensures { result ≡ sizes_of (circuit c.now.file.now) }
 {
-    let a = file_counts::count_ands(file, c);
-    let s1 = file_counts::count_owned(file, c, 1);
-    let s2 = file_counts::count_owned(file, c, 2);
-    let s3 = file_counts::count_owned(file, c, 3);
-    door_answers::sizes_from(c, a, s1, s2, s3)
-}
-
-// A listing's answer, with the length of its text.
-pub fn text_told(a: Listed) -> ListingAnswer
-    ensures { result ≡ told_listing (listed_answer a) }
-{
-    match a {
-        Listed::Good(length) => ListingAnswer {
-            number: 0,
-            place: 0,
-            length,
-        },
-        Listed::Refused(number, place) => ListingAnswer {
-            number,
-            place,
-            length: 0,
-        },
-    }
+    let a = file_counts::count_ands(c);
+    let s1 = file_counts::count_owned(c, Site::One);
+    let s2 = file_counts::count_owned(c, Site::Two);
+    let s3 = file_counts::count_owned(c, Site::Three);
+    door_answers::sizes_from(c.counts, a, s1, s2, s3)
 }

@@ -11,8 +11,7 @@ use door_answers::Answer;
 pub fn plain_for_c(file: &[u8], inputs: &[u8], values: &mut [u8]) -> Answer
     ensures { Tells result (values.new ∷ []) (Plain file.now inputs.now values.old) }
 {
-    let a = plain::plain_values(file, inputs, values);
-    door_replies::done_told(a)
+    Answer::from(plain::plain_values(file, inputs, values))
 }
 
 // The run of the three sites on a line.
@@ -28,8 +27,7 @@ pub fn run_for_c(
     ensures { Tells result (outputs.new ∷ transcript.new ∷ store.new ∷ [])
         (Run file.now inputs.now tapes.now line.now outputs.old transcript.old store.old) }
 {
-    let a = run::run(file, inputs, tapes, line, outputs, transcript, store);
-    door_replies::run_told(a)
+    door_replies::run_told(run::run(file, inputs, tapes, line, outputs, transcript, store))
 }
 
 // What a site sees of a run on a clean line.
@@ -43,8 +41,7 @@ pub fn view_for_c(
 ) -> Answer
     ensures { Tells result (view.new ∷ store.new ∷ []) (View file.now inputs.now tapes.now site view.old store.old) }
 {
-    let a = view::view_of(file, inputs, tapes, site, view, store);
-    door_replies::done_told(a)
+    Answer::from(view::view_of(file, inputs, tapes, site, view, store))
 }
 
 // Re-taping: the tapes that explain a site's view by other inputs.
@@ -60,6 +57,5 @@ pub fn retape_for_c(
     ensures { Tells result (fresh.new ∷ room.new ∷ [])
         (Retape file.now inputs.now tapes.now second.now site fresh.old room.old) }
 {
-    let a = retape::retape(file, inputs, tapes, second, site, fresh, room);
-    door_replies::done_told(a)
+    Answer::from(retape::retape(file, inputs, tapes, second, site, fresh, room))
 }

@@ -1,67 +1,62 @@
 // What is counted in a circuit: A, the AND and OR gates, and Is, the inputs of a site.
 #![tactic(auto)]
 
-ghost use Rattle.std.specs.Prelude.{◌≡◌, cond, ◌+◌, ◌<◌, ◌≤◌};
+ghost use Rattle.std.specs.Prelude.{◌≡◌, ◌<◌, ◌≤◌};
 ghost use Rattle.theory_sharing.specs.Sites.{is};
-ghost use Rattle.theory_sharing.specs.Circuit.{dealing, ands, owned};
-ghost use Rattle.theory_calls.specs.File.{circuit, site_of};
-ghost use Rattle.file_parts.specs.Checked.{Checked};
+ghost use Rattle.theory_sharing.specs.Circuit.{dealing, owned, ands as ands_of};
+ghost use Rattle.theory_calls.specs.File.{circuit as circuit_of};
+ghost use Rattle.check_tests.specs.Seat.{seat};
 
-use file_header::Counts;
-use file_parts::{Gate, Owner};
+use check_tests::Site;
+use file_reader::Circuit;
 
-pub fn gate_deals(file: &[u8], c: Counts, k: usize) -> usize
-    requires { Checked file.now c × (k < c.gates) }
-    ensures { (result ≡ dealing ((circuit file.now).gate k)) × (result ≤ 1) }
+// A circuit of which A is known: every call that reads tapes asks for it.
+#[derive(Clone, Copy)]
+pub struct Counted<'a> {
+    pub circuit: Circuit<'a>,
+    pub ands: usize,
+    pub ghost counted: { (ands ≡ ands_of (circuit_of circuit.file.now).gate circuit.counts.gates) × (ands ≤ circuit.counts.gates) },
+}
+
+// 1 for gate k where it deals, else 0.
+pub fn gate_deals(c: &Circuit<'_>, k: usize) -> usize
+    requires { k < c.now.counts.gates }
+    ensures value { result ≡ dealing ((circuit_of c.now.file.now).gate k) }
+    ensures bound { result ≤ 1 }
 {
-    let a = file_reader::gate_with(file, c, k);
-    let Gate::Is(kind, _, _) = a else {
-        return 0;
-    };
-    check_tests::deal_bit(kind)
+    check_tests::deal_bit(c.gate(k).kind)
 }
 
 // A: the AND and OR gates.
-pub fn count_ands(file: &[u8], c: Counts) -> usize
-    requires { Checked file.now c }
-    ensures { (result ≡ ands (circuit file.now).gate c.gates) × (result ≤ c.gates) }
+pub fn count_ands(c: &Circuit<'_>) -> usize
+    ensures value { result ≡ ands_of (circuit_of c.now.file.now).gate c.now.counts.gates }
+    ensures bound { result ≤ c.now.counts.gates }
 {
-    let n = c.gates;
-    let mut t: usize = 0;
-    let mut k: usize = 0;
-    while k < n {
-        t += gate_deals(file, c, k);
-        k += 1;
+    let mut ands = 0usize;
+    for k in 0..c.counts.gates {
+        ands += gate_deals(c, k);
     }
-    t
+    ands
 }
 
-// 1 for an input of the site, else 0. An owner that was checked is its site's number, so that one comparison tells.
-pub fn input_owned(file: &[u8], c: Counts, site: usize, k: usize) -> usize
-    requires { Checked file.now c × (k < c.inputs) }
-    ensures { (result ≡ cond (is (site_of site) ((circuit file.now).owner k)) 1 0) × (result ≤ 1) }
+// Whether input k is the site's. An owner that was checked is its site's number, so that one comparison tells.
+pub fn input_owned(c: &Circuit<'_>, site: Site, k: usize) -> bool
+    requires { k < c.now.counts.inputs }
+    ensures { result ≡ is (seat site) ((circuit_of c.now.file.now).owner k) }
 {
-    let a = file_reader::owner_with(file, c, k);
-    let Owner::Is(o) = a else {
-        return 0;
-    };
-    if check_tests::site_number(site) == o as usize {
-        return 1;
-    }
-    0
+    c.owner(k) == site.number()
 }
 
 // Is: the inputs of a site.
-pub fn count_owned(file: &[u8], c: Counts, site: usize) -> usize
-    requires { Checked file.now c }
-    ensures { (result ≡ owned (circuit file.now).owner (site_of site) c.inputs) × (result ≤ c.inputs) }
+pub fn count_owned(c: &Circuit<'_>, site: Site) -> usize
+    ensures value { result ≡ owned (circuit_of c.now.file.now).owner (seat site) c.now.counts.inputs }
+    ensures bound { result ≤ c.now.counts.inputs }
 {
-    let n = c.inputs;
-    let mut t: usize = 0;
-    let mut k: usize = 0;
-    while k < n {
-        t += input_owned(file, c, site, k);
-        k += 1;
+    let mut count = 0usize;
+    for k in 0..c.counts.inputs {
+        if input_owned(c, site, k) {
+            count += 1;
+        }
     }
-    t
+    count
 }

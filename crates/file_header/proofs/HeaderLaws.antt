@@ -10,34 +10,39 @@ use Prim.Native.Nat.{ℕ, ◌+◌, ◌*◌}
 use native.Mathlib.Omega.{arith}
 use lib.ListN.{length}
 use lib.Dec.{leb, eqb}
+use Rattle.std.specs.Prelude.{Result, Ok, Err}
 use Rattle.theory_calls.specs.File.{le32, inputs_of, gates_of, outputs_of, size}
-use Rattle.theory_calls.specs.Checks.{Refusal, header_checks, Verdict, refuses, verdict}
+use Rattle.theory_calls.specs.Checks.{Refusal as Row, header_checks, Verdict, refuses, verdict}
 use Rattle.theory_calls.proofs.Places.{Rising, refuse_at, place_verdict}
+use Rattle.check_refusal.specs.declared.Refusal.{Refusal}
+use Rattle.check_refusal.specs.declared.Refusal.TheVariants.{Short, Limit, Header}
+use Rattle.check_refusal.specs.Number.{number_of, place_of}
 use Rattle.file_header.specs.declared.Counts.{Counts}
-use Rattle.file_header.specs.declared.Header.{Header}
-use Rattle.file_header.specs.declared.Header.TheVariants.{Good, Refused}
-use Rattle.file_header.specs.Mirror.{fields_judged, judged, header_of}
+use Rattle.file_header.specs.Mirror.{fields_of, fields_judged, judged, header_of}
 
-unfoldable pub on_header : Header → Verdict → Verdict
-on_header (Good c) v = v
-on_header (Refused n p) v = refuses n p
+abbrev refuses_by : Refusal → Verdict
+refuses_by e = refuses (number_of e) (place_of e)
 
-good_on : (c : Counts) (v : Verdict) → on_header (Good c) v ≡ v
+unfoldable pub on_header : Result Counts Refusal → Verdict → Verdict
+on_header (Ok c) v = v
+on_header (Err e) v = refuses_by e
+
+good_on : (c : Counts) (v : Verdict) → on_header (Ok c) v ≡ v
 unfolding on_header
 good_on c v = refl
 
 -- one test of the header, and two with one answer
-one_test : (b : Bool) (h : Header) (n p : ℕ) (v w : Verdict) → w ≡ on_header h v → cond (not b) (refuses n p) w ≡ on_header (cond b h (Refused n p)) v
+one_test : (b : Bool) (h : Result Counts Refusal) (e : Refusal) (v w : Verdict) → w ≡ on_header h v → cond (not b) (refuses_by e) w ≡ on_header (cond b h (Err e)) v
 unfolding on_header
-one_test true h n p v w e = e
-one_test false h n p v w e = refl
+one_test true h e v w q = q
+one_test false h e v w q = refl
 
-two_tests : (a b : Bool) (h : Header) (n p : ℕ) (v w : Verdict) → w ≡ on_header h v
-    → cond (not (a && b)) (refuses n p) w ≡ on_header (cond a (cond b h (Refused n p)) (Refused n p)) v
+two_tests : (a b : Bool) (h : Result Counts Refusal) (e : Refusal) (v w : Verdict) → w ≡ on_header h v
+    → cond (not (a && b)) (refuses_by e) w ≡ on_header (cond a (cond b h (Err e)) (Err e)) v
 unfolding on_header
-two_tests true true h n p v w e = e
-two_tests true false h n p v w e = refl
-two_tests false b h n p v w e = refl
+two_tests true true h e v w q = q
+two_tests true false h e v w q = refl
+two_tests false b h e v w q = refl
 
 module _ (s : List ℕ) where
   header_steps : (v : Verdict) →
@@ -55,17 +60,17 @@ module _ (s : List ℕ) where
       let i = inputs_of s in
       let n = gates_of s in
       let o = outputs_of s in
-      one_test (leb 32 (length s)) _ 1 0 v _
-      (one_test (leb i 1024) _ 2 0 v _
-      (one_test (leb n 3072) _ 2 1 v _
-      (one_test (leb o 256) _ 2 2 v _
-      (two_tests (eqb (le32 s 0) (32 + i + 6 * n + 2 * o)) (eqb (length s) (le32 s 0)) _ 3 0 v _
-      (one_test (eqb (le32 s 16) 32) _ 3 16 v _
-      (one_test (eqb (le32 s 20) (32 + i)) _ 3 20 v _
-      (one_test (eqb (le32 s 24) (32 + i + 6 * n)) _ 3 24 v _
-      (one_test (eqb (le32 s 28) 0) (Good (record { inputs = i; gates = n; outputs = o })) 3 28 v v (sym (good_on _ v))))))))))
+      one_test (leb 32 (length s)) _ Short v _
+      (one_test (leb i 1024) _ (Limit 0) v _
+      (one_test (leb n 3072) _ (Limit 1) v _
+      (one_test (leb o 256) _ (Limit 2) v _
+      (two_tests (eqb (le32 s 0) (32 + i + 6 * n + 2 * o)) (eqb (length s) (le32 s 0)) _ (Header 0) v _
+      (one_test (eqb (le32 s 16) 32) _ (Header 16) v _
+      (one_test (eqb (le32 s 20) (32 + i)) _ (Header 20) v _
+      (one_test (eqb (le32 s 24) (32 + i + 6 * n)) _ (Header 24) v _
+      (one_test (eqb (le32 s 28) 0) (Ok (record { inputs = i; gates = n; outputs = o })) (Header 28) v v (sym (good_on _ v))))))))))
 
-  pub header_verdict : (cs : List Refusal) → verdict (header_checks s ++ cs) ≡ on_header (header_of s) (verdict cs)
+  pub header_verdict : (cs : List Row) → verdict (header_checks s ++ cs) ≡ on_header (header_of s) (verdict cs)
   unfolding Rising size
   header_verdict cs =
       place_verdict 1 1 _ _ (omega arith, omega arith, tt)
@@ -77,12 +82,12 @@ module _ (s : List ℕ) where
       ∙ header_steps (verdict cs)
 
 -- a call whose header is refused, and one whose header is good
-refused_on : (n p : ℕ) (v : Verdict) → on_header (Refused n p) v ≡ refuses n p
+refused_on : (e : Refusal) (v : Verdict) → on_header (Err e) v ≡ refuses_by e
 unfolding on_header
-refused_on n p v = refl
+refused_on e v = refl
 
-pub header_refused : (s : List ℕ) (cs : List Refusal) (n p : ℕ) → header_of s ≡ Refused n p → verdict (header_checks s ++ cs) ≡ refuses n p
-header_refused s cs n p e = header_verdict s cs ∙ ap (λ (h : Header). on_header h (verdict cs)) e ∙ refused_on n p (verdict cs)
+pub header_refused : (s : List ℕ) (cs : List Row) (e : Refusal) → header_of s ≡ Err e → verdict (header_checks s ++ cs) ≡ refuses (number_of e) (place_of e)
+header_refused s cs e q = header_verdict s cs ∙ ap (λ (h : Result Counts Refusal). on_header h (verdict cs)) q ∙ refused_on e (verdict cs)
 
-pub header_good : (s : List ℕ) (cs : List Refusal) (c : Counts) → header_of s ≡ Good c → verdict (header_checks s ++ cs) ≡ verdict cs
-header_good s cs c e = header_verdict s cs ∙ ap (λ (h : Header). on_header h (verdict cs)) e ∙ good_on c (verdict cs)
+pub header_good : (s : List ℕ) (cs : List Row) (c : Counts) → header_of s ≡ Ok c → verdict (header_checks s ++ cs) ≡ verdict cs
+header_good s cs c q = header_verdict s cs ∙ ap (λ (h : Result Counts Refusal). on_header h (verdict cs)) q ∙ good_on c (verdict cs)

@@ -6,24 +6,26 @@ use mathlib.Core.List.{List}
 use Prim.Native.Nat.{ℕ}
 use native.Mathlib.Omega.{arith}
 use lib.ListN.{length}
+use Rattle.std.specs.Prelude.{Result, Ok, Err}
 use Rattle.theory_calls.specs.File.{inputs_of, gates_of, outputs_of}
-use Rattle.file_header.specs.declared.Header.{Header}
-use Rattle.file_header.specs.declared.Header.TheVariants.{Good, Refused}
+use Rattle.check_refusal.specs.declared.Refusal.{Refusal}
+use Rattle.file_header.specs.declared.Counts.{Counts}
+use Rattle.file_header.specs.declared.Fields.{Fields}
 use Rattle.file_header.specs.Mirror.{Fine}
 use Rattle.file_header.specs.Opened.{IsOpened}
 
-pub opened_of : (h : Header) (s : List ℕ) (i g o : ℕ) → i ≡ inputs_of s → g ≡ gates_of s → o ≡ outputs_of s → Fine h (length s) i g o → IsOpened h s
-opened_of (Good c) s i g o ei eg eo f =
-    let a = f.0 in
-    let b = f.1 in
-    let d = f.2 in
+pub opened_of : (h : Result Counts Refusal) (s : List ℕ) (f : Fields) → f.inputs ≡ inputs_of s → f.gates ≡ gates_of s → f.outputs ≡ outputs_of s → Fine h (length s) f → IsOpened h s
+opened_of (Ok c) s f ei eg eo z =
+    let a = z.0 in
+    let b = z.1 in
+    let d = z.2 in
     record {
       ins_are = a ∙ ei;
       gates_are = b ∙ eg;
       outs_are = d ∙ eo;
-      few_inputs = let e = f.3 in omega arith;
-      few_gates = let e = f.4 in omega arith;
-      few_outputs = let e = f.5 in omega arith;
-      as_long = let e = f.6 in omega arith;
+      few_inputs = let e = z.3 in omega arith;
+      few_gates = let e = z.4 in omega arith;
+      few_outputs = let e = z.5 in omega arith;
+      as_long = let e = z.6 in omega arith;
     }
-opened_of (Refused n p) s i g o ei eg eo f = tt
+opened_of (Err x) s f ei eg eo z = tt

@@ -1,46 +1,60 @@
 -- What the header's inner functions compute, test by test in the code's order. No public contract cites these: laws in proofs/ tie them to
 -- the calls of theory_calls.
+--     fields_of                             the eight numbers of a file
 --     fields_judged, judged, header_of      the header's answer, from check 3 on, from 2 on, whole
 --     Fine                                  what a good one says of the numbers it was made of
-use Rattle.std.specs.Prelude.{◌≡◌, cond, List, ℕ, ◌+◌, ◌*◌, ◌≤◌, length, leb, eqb}
+use Rattle.std.specs.Prelude.{◌≡◌, cond, List, ℕ, ◌+◌, ◌*◌, ◌≤◌, length, leb, eqb, Result, Ok, Err}
 use Rattle.theory_calls.specs.File.{le32}
-use Rattle.file_header.specs.declared.Header.{Header}
-use Rattle.file_header.specs.declared.Header.TheVariants.{Good as HeaderGood, Refused as HeaderRefused}
+use Rattle.check_refusal.specs.declared.Refusal.{Refusal}
+use Rattle.check_refusal.specs.declared.Refusal.TheVariants.{Short, Limit, Header}
+use Rattle.file_header.specs.declared.Counts.{Counts}
+use Rattle.file_header.specs.declared.Fields.{Fields}
+
+abbrev pub fields_of : List ℕ → Fields
+fields_of s = record {
+  length = le32 s 0;
+  inputs = le32 s 4;
+  gates = le32 s 8;
+  outputs = le32 s 12;
+  owners_at = le32 s 16;
+  gates_at = le32 s 20;
+  outputs_at = le32 s 24;
+  last = le32 s 28;
+}
 
 -- check 3, of a file of len bytes with these header fields
-unfoldable pub fields_judged : ℕ → ℕ → ℕ → ℕ → ℕ → ℕ → ℕ → ℕ → ℕ → Header
-fields_judged len n i g o p q r z =
-    cond (eqb n (32 + i + 6 * g + 2 * o))
-    (cond (eqb len n)
-    (cond (eqb p 32)
-    (cond (eqb q (32 + i))
-    (cond (eqb r (32 + i + 6 * g))
-    (cond (eqb z 0) (HeaderGood (record { inputs = i; gates = g; outputs = o }))
-    (HeaderRefused 3 28))
-    (HeaderRefused 3 24))
-    (HeaderRefused 3 20))
-    (HeaderRefused 3 16))
-    (HeaderRefused 3 0))
-    (HeaderRefused 3 0)
+unfoldable pub fields_judged : ℕ → Fields → Result Counts Refusal
+fields_judged len f =
+    cond (eqb f.length (32 + f.inputs + 6 * f.gates + 2 * f.outputs))
+    (cond (eqb len f.length)
+    (cond (eqb f.owners_at 32)
+    (cond (eqb f.gates_at (32 + f.inputs))
+    (cond (eqb f.outputs_at (32 + f.inputs + 6 * f.gates))
+    (cond (eqb f.last 0) (Ok (record { inputs = f.inputs; gates = f.gates; outputs = f.outputs }))
+    (Err (Header 28)))
+    (Err (Header 24)))
+    (Err (Header 20)))
+    (Err (Header 16)))
+    (Err (Header 0)))
+    (Err (Header 0))
 
 -- checks 2 and 3
-unfoldable pub judged : ℕ → ℕ → ℕ → ℕ → ℕ → ℕ → ℕ → ℕ → ℕ → Header
-judged len n i g o p q r z =
-    cond (leb i 1024)
-    (cond (leb g 3072)
-    (cond (leb o 256) (fields_judged len n i g o p q r z)
-    (HeaderRefused 2 2))
-    (HeaderRefused 2 1))
-    (HeaderRefused 2 0)
+unfoldable pub judged : ℕ → Fields → Result Counts Refusal
+judged len f =
+    cond (leb f.inputs 1024)
+    (cond (leb f.gates 3072)
+    (cond (leb f.outputs 256) (fields_judged len f)
+    (Err (Limit 2)))
+    (Err (Limit 1)))
+    (Err (Limit 0))
 
-unfoldable pub header_of : List ℕ → Header
-header_of s =
-    cond (leb 32 (length s))
-    (judged (length s) (le32 s 0) (le32 s 4) (le32 s 8) (le32 s 12) (le32 s 16) (le32 s 20) (le32 s 24) (le32 s 28))
-    (HeaderRefused 1 0)
+unfoldable pub header_of : List ℕ → Result Counts Refusal
+header_of s = cond (leb 32 (length s)) (judged (length s) (fields_of s)) (Err Short)
 
 -- a good header's counts are the fields, within their limits, and make the file's length
-abbrev pub Fine : Header → ℕ → ℕ → ℕ → ℕ → Type 0
-Fine (HeaderGood c) len i g o =
-    (c.inputs ≡ i) × (c.gates ≡ g) × (c.outputs ≡ o) × (i ≤ 1024) × (g ≤ 3072) × (o ≤ 256) × (len ≡ 32 + i + 6 * g + 2 * o)
-Fine (HeaderRefused n p) len i g o = Unit {0}
+abbrev pub Fine : Result Counts Refusal → ℕ → Fields → Type 0
+Fine (Ok c) len f =
+    (c.inputs ≡ f.inputs) × (c.gates ≡ f.gates) × (c.outputs ≡ f.outputs)
+    × (f.inputs ≤ 1024) × (f.gates ≤ 3072) × (f.outputs ≤ 256)
+    × (len ≡ 32 + f.inputs + 6 * f.gates + 2 * f.outputs)
+Fine (Err e) len f = Unit {0}

@@ -4,101 +4,97 @@
 ghost use Rattle.std.specs.Prelude.{◌≡◌, ◌+◌, ◌*◌, ◌<◌, ◌≤◌};
 ghost use Rattle.theory_calls.specs.Calls.{Open, answers, does};
 ghost use Rattle.file_header.specs.Answers.{header_answer};
-ghost use Rattle.file_header.specs.Mirror.{fields_judged, judged, header_of, Fine};
+ghost use Rattle.file_header.specs.Mirror.{fields_of, fields_judged, judged, header_of, Fine};
 ghost use Rattle.file_header.specs.Opened.{IsOpened};
 
+use check_refusal::Refusal;
+
 // The counts of a file whose header is good.
-#[derive(Clone, Copy)]
+#[derive(Clone, Copy, Debug, PartialEq, Eq)]
 pub struct Counts {
     pub inputs: usize,
     pub gates: usize,
     pub outputs: usize,
 }
 
-// The header's answer: the counts, or the refusal's number and place.
+// The header's eight numbers, as they stand in the file.
 #[derive(Clone, Copy)]
-pub enum Header {
-    Good(Counts),
-    Refused(usize, usize),
+pub struct Fields {
+    pub length: u32,
+    pub inputs: u32,
+    pub gates: u32,
+    pub outputs: u32,
+    pub owners_at: u32,
+    pub gates_at: u32,
+    pub outputs_at: u32,
+    pub last: u32,
 }
 
 // Check 3 on the header's numbers, which are within their limits, so that no sum can wrap.
-fn judge_fields(
-    len: usize,
-    n: u32,
-    i: u32,
-    g: u32,
-    o: u32,
-    p: u32,
-    q: u32,
-    r: u32,
-    z: u32,
-) -> Header
-    requires { (i ≤ 1024) × (g ≤ 3072) × (o ≤ 256) }
-    ensures value { result ≡ fields_judged len n i g o p q r z }
-    ensures fine { Fine result len i g o }
+fn judge_fields(len: usize, f: Fields) -> Result<Counts, Refusal>
+    requires { (f.inputs ≤ 1024) × (f.gates ≤ 3072) × (f.outputs ≤ 256) }
+    ensures value { result ≡ fields_judged len f }
+    ensures fine { Fine result len f }
 {
-    if n != 32 + i + 6 * g + 2 * o {
-        return Header::Refused(3, 0);
+    if f.length != 32 + f.inputs + 6 * f.gates + 2 * f.outputs {
+        return Err(Refusal::Header(0));
     }
-    let whole = n as usize;
-    if len != whole {
-        return Header::Refused(3, 0);
+    if len != f.length as usize {
+        return Err(Refusal::Header(0));
     }
-    if p != 32 {
-        return Header::Refused(3, 16);
+    if f.owners_at != 32 {
+        return Err(Refusal::Header(16));
     }
-    if q != 32 + i {
-        return Header::Refused(3, 20);
+    if f.gates_at != 32 + f.inputs {
+        return Err(Refusal::Header(20));
     }
-    if r != 32 + i + 6 * g {
-        return Header::Refused(3, 24);
+    if f.outputs_at != 32 + f.inputs + 6 * f.gates {
+        return Err(Refusal::Header(24));
     }
-    if z != 0 {
-        return Header::Refused(3, 28);
+    if f.last != 0 {
+        return Err(Refusal::Header(28));
     }
-    Header::Good(Counts {
-        inputs: i as usize,
-        gates: g as usize,
-        outputs: o as usize,
+    Ok(Counts {
+        inputs: f.inputs as usize,
+        gates: f.gates as usize,
+        outputs: f.outputs as usize,
     })
 }
 
 // Checks 2 and 3 on the header's eight numbers.
-fn judge(len: usize, n: u32, i: u32, g: u32, o: u32, p: u32, q: u32, r: u32, z: u32) -> Header
-    ensures value { result ≡ judged len n i g o p q r z }
-    ensures fine { Fine result len i g o }
+fn judge(len: usize, f: Fields) -> Result<Counts, Refusal>
+    ensures value { result ≡ judged len f }
+    ensures fine { Fine result len f }
 {
-    let place = check_limits::too_large(i, g, o);
-    if place < 3 {
-        return Header::Refused(2, place);
+    if let Some(place) = check_limits::too_large(f.inputs, f.gates, f.outputs) {
+        return Err(Refusal::Limit(place));
     }
-    judge_fields(len, n, i, g, o, p, q, r, z)
+    judge_fields(len, f)
 }
 
 // Checks 1 to 3.
-pub fn read_header(file: &[u8]) -> Header
+pub fn read_header(file: &[u8]) -> Result<Counts, Refusal>
     ensures value { result ≡ header_of file.now }
     ensures opened { IsOpened result file.now }
 {
     if file.len() < 32 {
-        return Header::Refused(1, 0);
+        return Err(Refusal::Short);
     }
-    judge(
-        file.len(),
-        file_numbers::u32_at(file, 0),
-        file_numbers::u32_at(file, 4),
-        file_numbers::u32_at(file, 8),
-        file_numbers::u32_at(file, 12),
-        file_numbers::u32_at(file, 16),
-        file_numbers::u32_at(file, 20),
-        file_numbers::u32_at(file, 24),
-        file_numbers::u32_at(file, 28),
-    )
+    let fields = Fields {
+        length: file_numbers::u32_at(file, 0),
+        inputs: file_numbers::u32_at(file, 4),
+        gates: file_numbers::u32_at(file, 8),
+        outputs: file_numbers::u32_at(file, 12),
+        owners_at: file_numbers::u32_at(file, 16),
+        gates_at: file_numbers::u32_at(file, 20),
+        outputs_at: file_numbers::u32_at(file, 24),
+        last: file_numbers::u32_at(file, 28),
+    };
+    judge(file.len(), fields)
 }
 
 // PUBLIC. The reader is opened by checks 1 to 3.
-pub fn open_file(file: &[u8]) -> Header
+pub fn open_file(file: &[u8]) -> Result<Counts, Refusal>
     ensures { answers (header_answer result) ≡ does (Open file.now) }
 {
     read_header(file)

@@ -8,6 +8,7 @@ use mathlib.Core.List.{List, [], ◌∷◌}
 use Prim.Native.Nat.{ℕ, zero, suc, ◌+◌, ◌*◌, ◌≤◌}
 use native.Mathlib.Omega.{arith}
 use lib.ListN.{length, get_or, take, replicate}
+use Rattle.std.specs.Prelude.{Result}
 use Rattle.theory_sharing.specs.Ops.{bits}
 use Rattle.theory_sharing.specs.Circuit.{Circuit, Draws, Errors, no_errors}
 use Rattle.theory_sharing.specs.Run.{outputs}
@@ -23,6 +24,8 @@ use Rattle.theory_calls.specs.AtBits.{ran}
 use Rattle.theory_calls.proofs.RunCall.{clean_errors, bit_draws, ran_quiet}
 use Rattle.file_header.specs.declared.Counts.{Counts}
 use Rattle.check_given.proofs.GivenLaws.{line_is}
+use Rattle.check_refusal.specs.declared.Refusal.{Refusal}
+use Rattle.file_counts.specs.declared.Counted.{Counted}
 use Rattle.run.specs.declared.Ran.{Ran}
 use Rattle.run.specs.Answers.{run_after}
 use Rattle.run.specs.Mirror.{Ready}
@@ -44,7 +47,7 @@ front_clean n l h k = go n l k (h k)
     go (suc m) (v ∷ s) zero e = e
     go (suc m) (v ∷ s) (suc i) e = go m s i e
 
-pub clean_opens : (C : Circuit) (x : ℕ → ℕ) (T : Draws) (l outs tr : List ℕ) (r : Ran) (o' t' s' : List ℕ) → Clean l
+pub clean_opens : (C : Circuit) (x : ℕ → ℕ) (T : Draws) (l outs tr : List ℕ) (r : Result Ran Refusal) (o' t' s' : List ℕ) → Clean l
     → run_after r o' t' s' ≡ ran C x T (errors C l) outs tr → o' ≡ outputs bits C x T no_errors C.outs
 clean_opens C x T l outs tr r o' t' s' h e =
     let q : errors C l ≡ no_errors = clean_errors C l h in
@@ -53,21 +56,29 @@ clean_opens C x T l outs tr r o' t' s' h e =
     ∙ ran_quiet bits C x T no_errors outs tr (stop_none bits C x T no_errors (λ p k. no_objection bit_group C x T (bit_draws T) p)))
 
 -- ---- what a run wants
-module _ (f : List ℕ) (c : Counts) (a : ℕ) (x t : List ℕ) (d : Fit f c a x t) where
+module _ (k : Counted) (x t : List ℕ) (d : Fit k x t) where
+  abbrev f : List ℕ
+  f = k.circuit.file.now
+
+  abbrev c : Counts
+  c = k.circuit.counts
+
+  abbrev a : ℕ
+  a = k.ands
+
   pub lines_are : 4 * c.inputs + 12 * a + 6 * c.outputs ≡ line_want (circuit f)
-  lines_are = line_is f c a d.checked.opened d.counted
+  lines_are = line_is f c a k.circuit.checked.opened k.counted.0
 
   -- the rooms hold what the largest circuit needs
   pub line_fits : (z : List ℕ) → length z ≡ 42496 → 4 * c.inputs + 12 * a + 6 * c.outputs ≤ length z
-  line_fits z e = let o = d.checked.opened in let p = o.few_inputs in let q = o.few_gates in let r = o.few_outputs in let s = d.few in omega arith
+  line_fits z e = let o = k.circuit.checked.opened in let p = o.few_inputs in let q = o.few_gates in let r = o.few_outputs in let s = k.counted.1 in omega arith
 
   pub store_fits : (z : List ℕ) → length z ≡ 24576 → 6 * (c.inputs + c.gates) ≤ length z
-  store_fits z e = let o = d.checked.opened in let p = o.few_inputs in let q = o.few_gates in omega arith
+  store_fits z e = let o = k.circuit.checked.opened in let p = o.few_inputs in let q = o.few_gates in omega arith
 
   pub outputs_fit : (z : List ℕ) → length z ≡ 768 → 3 * c.outputs ≤ length z
-  outputs_fit z e = let r = d.checked.opened.few_outputs in omega arith
+  outputs_fit z e = let r = k.circuit.checked.opened.few_outputs in omega arith
 
-  pub ready : (l o r s : ℕ) → l ≡ 4 * c.inputs + 12 * a + 6 * c.outputs → o ≡ 3 * c.outputs → r ≡ 4 * c.inputs + 12 * a + 6 * c.outputs → s ≡ 6 * (c.inputs + c.gates)
-      → Ready f c (length x) (length t) l o r s
-  ready l o r s el eo er es =
-      record { checked = d.checked; lx = d.in_x.long; lt = d.in_t; ll = el ∙ lines_are; lo = eo; lr = er ∙ lines_are; ls = es }
+  pub ready : (l r s : ℕ) → l ≡ 4 * c.inputs + 12 * a + 6 * c.outputs → r ≡ 4 * c.inputs + 12 * a + 6 * c.outputs → s ≡ 6 * (c.inputs + c.gates)
+      → Ready f c (length x) (length t) l r s
+  ready l r s el er es = record { checked = k.circuit.checked; lx = d.in_x.long; lt = d.in_t; ll = el ∙ lines_are; lr = er ∙ lines_are; ls = es }

@@ -6,6 +6,7 @@ use mathlib.Core.List.{List, [], ◌∷◌, ◌++◌}
 use Prim.Native.Nat.{ℕ, zero, suc, ◌+◌, ◌*◌, ◌<◌, ◌≤◌}
 use native.Mathlib.Omega.{arith}
 use lib.ListN.{length, get_or}
+use Rattle.std.specs.Prelude.{Ok}
 use Rattle.theory_sharing.specs.Ops.{bits}
 use Rattle.theory_sharing.specs.Sites.{s1}
 use Rattle.theory_sharing.specs.Circuit.{Circuit, Draws, no_errors}
@@ -25,7 +26,7 @@ use Rattle.theory_sharing.proofs.RunLaws.{outputs_at}
 use native.Mathlib.Nat.{add-zero}
 use Rattle.listing_text.specs.Mirror.{head_of, lines_of, shown_of, OneDigit}
 use Rattle.listing_text.proofs.TextLaws.{good_lines}
-use Rattle.listing.specs.declared.Listed.TheVariants.{Good}
+use Rattle.file_counts.specs.declared.Counted.{Counted}
 use Rattle.listing.specs.Answers.{listed_answer, listed_after}
 use Rattle.listing.specs.Mirror.{Fit, says_good}
 
@@ -48,8 +49,17 @@ all_same : (i g o t : ℕ) (s u : ℕ → ℕ) → ((k : ℕ) → k < o → s k 
 unfolding lines_of
 all_same i g o t s u h = let p = lines_same s u o h in λ j. head_of i g o t ++ p j ++ word_end ++ LF
 
-module _ (f : List ℕ) (c : Counts) (a : ℕ) (x t : List ℕ) (d : Fit f c a x t) (outs : List ℕ)
-    (e : outs ≡ outputs bits (circuit f) (at_wire x) (read (circuit f) t) no_errors (circuit f).outs) where
+module _ (k : Counted) (x t : List ℕ) (d : Fit k x t) (outs : List ℕ)
+    (e : outs ≡ outputs bits (circuit k.circuit.file.now) (at_wire x) (read (circuit k.circuit.file.now) t) no_errors (circuit k.circuit.file.now).outs) where
+  abbrev f : List ℕ
+  f = k.circuit.file.now
+
+  abbrev c : Counts
+  c = k.circuit.counts
+
+  abbrev a : ℕ
+  a = k.ands
+
   abbrev C : Circuit
   C = circuit f
 
@@ -62,15 +72,15 @@ module _ (f : List ℕ) (c : Counts) (a : ℕ) (x t : List ℕ) (d : Fit f c a x
   pub digit : OneDigit outs c.outputs
   unfolding OneDigit
   digit o h =
-      let k = d.checked.opened.outs_are in
+      let u = k.circuit.checked.opened.outs_are in
       let q = shown o (omega arith) in
       let s = shown_small C x t d.in_x.small o in
       omega arith
 
   pub text_is : lines_of c.inputs c.gates c.outputs (4 * c.inputs + 12 * a + 3 * c.outputs) (shown_of outs) ≡ good_text C opens
   text_is =
-      let o = d.checked.opened in
-      let A = ands_are f c a o d.counted in
+      let o = k.circuit.checked.opened in
+      let A = ands_are f c a o k.counted.0 in
       let T : 4 * c.inputs + 12 * a + 3 * c.outputs ≡ table_total C = (λ i. 4 * o.ins_are i + 12 * A i + 3 * o.outs_are i) ∙ sym (table_total_is C) in
       (λ i. lines_of (o.ins_are i) (o.gates_are i) (o.outs_are i) (T i) (shown_of outs))
       ∙ all_same C.ins C.gates C.outs (table_total C) (shown_of outs) opens shown ∙ sym (good_lines C opens)
@@ -79,11 +89,11 @@ module _ (f : List ℕ) (c : Counts) (a : ℕ) (x t : List ℕ) (d : Fit f c a x
     abbrev T : List ℕ
     T = lines_of c.inputs c.gates c.outputs (4 * c.inputs + 12 * a + 3 * c.outputs) (shown_of outs)
 
-    pub told_good : after ≡ fill before T → n ≡ length T → listed_after (Good n) after ≡ says_good f x t before
+    pub told_good : after ≡ fill before T → n ≡ length T → listed_after (Ok n) after ≡ says_good f x t before
     unfolding listed_answer
-    told_good q k =
-        (λ i. record { answer = good (k i ∷ []); returned = []; lent = q i ∷ [] })
+    told_good q m =
+        (λ i. record { answer = good (m i ∷ []); returned = []; lent = q i ∷ [] })
         ∙ ap (λ (l : List ℕ). record { answer = good (length l ∷ []); returned = []; lent = fill before l ∷ [] }) text_is
 
   pub total_small : 4 * c.inputs + 12 * a + 3 * c.outputs ≤ 41728
-  total_small = let o = d.checked.opened in let p = o.few_inputs in let q = o.few_gates in let r = o.few_outputs in let s = d.few in omega arith
+  total_small = let o = k.circuit.checked.opened in let p = o.few_inputs in let q = o.few_gates in let r = o.few_outputs in let s = k.counted.1 in omega arith

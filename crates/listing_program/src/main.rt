@@ -1,24 +1,17 @@
 // The listing program: a job from standard input, its text to standard output.
 #![tactic(auto)]
 
-use listing::Listed;
+use check_refusal::Refusal;
 use trials_stream::print;
 
 // The number of standard input.
 const STDIN_FILENO: i32 = 0;
 
 // What is printed, in front in the room: the text of a good job, which is there, or a refusal's line. How long it is.
-fn printed(listed: Listed, room: &mut [u8; 2624]) -> usize {
+fn printed(listed: Result<usize, Refusal>, room: &mut [u8; 2624]) -> usize {
     match listed {
-        Listed::Good(n) => n,
-        Listed::Refused(number, place) => listing_text::refused_text(room, number, place),
-    }
-}
-
-// The front of the room.
-fn show(room: &[u8; 2624], n: usize) {
-    if n <= 2624 {
-        print::front(room, n);
+        Ok(n) => n,
+        Err(refusal) => listing_text::refused_text(room, refusal.number(), refusal.place()),
     }
 }
 
@@ -29,5 +22,7 @@ fn main() {
     let n = io::read_full(STDIN_FILENO, &mut job);
     let listed = listing::listing(&job[..n], &mut room);
     let told = printed(listed, &mut room);
-    show(&room, told);
+    if told <= 2624 {
+        print::word(&room[..told]);
+    }
 }

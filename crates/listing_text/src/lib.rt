@@ -1,4 +1,5 @@
-// The listing's text, written into a lent buffer from the front, as file_writer writes.
+// The listing's text, written into a lent buffer from the front, as file_writer writes. Each writer takes a place and gives the next: a struct
+// of the buffer and its place would stand in each clause twice, before and after, and say no more.
 #![tactic(auto)]
 
 ghost use Rattle.std.specs.Prelude.{◌≡◌, ℕ, ◌+◌, ◌*◌, ◌<◌, ◌≤◌, ◌++◌, length};
@@ -35,6 +36,7 @@ fn put_item(text: &mut [u8], at: usize, word: &[u8], n: usize) -> usize
 }
 
 // A line of a word and two numbers: a refusal's and an output's are of this one form.
+#[tactic(auto, using(crate::proofs::TextLaws::line_length))]
 fn put_line(text: &mut [u8], at: usize, word: &[u8], n: usize, p: usize) -> usize
     requires { at + length (line_of word.now n p) ≤ length text.old }
     ensures text_after { text.new ≡ write at (line_of word.now n p) text.old }
@@ -55,6 +57,7 @@ pub fn refused_text(text: &mut [u8], number: usize, place: usize) -> usize
 }
 
 // An output's line. It stands alone because a byte string in a loop would be one more thing to carry through its turns.
+#[tactic(auto, using(crate::proofs::TextLaws::line_out))]
 fn out_line(text: &mut [u8], at: usize, o: usize, bit: u8) -> usize
     requires { (at + 10 ≤ length text.old) × (o < 1000) × (bit ≤ 9) }
     ensures text_after { text.new ≡ write at (line_of word_out o bit) text.old }
@@ -70,16 +73,14 @@ fn out_lines(text: &mut [u8], at: usize, outs: &[u8], n: usize) -> usize
     ensures value { result ≡ at + length (out_lines (shown_of outs.now) n) }
 {
     let mut e = at;
-    let mut o: usize = 0;
-    while o < n {
-        let r = out_line(text, e, o, outs[3 * o]);
-        e = r;
-        o += 1;
+    for o in 0..n {
+        e = out_line(text, e, o, outs[3 * o]);
     }
     e
 }
 
 // The first line but its end: the three counts.
+#[tactic(auto, using(crate::proofs::TextLaws::counts_length))]
 fn put_counts(text: &mut [u8], c: Counts) -> usize
     requires { length (counts_of c.inputs c.gates c.outputs) ≤ length text.old }
     ensures text_after { text.new ≡ fill text.old (counts_of c.inputs c.gates c.outputs) }
@@ -91,6 +92,7 @@ fn put_counts(text: &mut [u8], c: Counts) -> usize
 }
 
 // The first two lines.
+#[tactic(auto, using(crate::proofs::TextLaws::head_length))]
 fn put_head(text: &mut [u8], c: Counts, total: usize) -> usize
     requires { length (head_of c.inputs c.gates c.outputs total) ≤ length text.old }
     ensures text_after { text.new ≡ fill text.old (head_of c.inputs c.gates c.outputs total) }

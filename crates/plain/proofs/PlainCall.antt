@@ -4,12 +4,12 @@
 -- Assumes nothing.
 use mathlib.Core.Path.{◌≡◌, refl, sym, ap, ◌∙◌}
 use mathlib.Core.List.{List, [], ◌∷◌}
-use Prim.Native.Nat.{ℕ, ◌+◌, ◌<◌, ◌≤◌}
+use Prim.Native.Nat.{ℕ, ◌+◌}
 use native.Mathlib.Omega.{arith}
 use lib.ListN.{length}
 use borrow.Author.Tests.{eq-eqb, ne_eqb}
+use Rattle.std.specs.Prelude.{Option, None, Some, Ok, Err}
 use Rattle.theory_sharing.specs.Circuit.{wires}
-use Rattle.theory_sharing.specs.First.{first}
 use Rattle.theory_calls.specs.File.{inputs_of, circuit}
 use Rattle.theory_calls.specs.Plain.{plain}
 use Rattle.theory_calls.specs.Checks.{Refusal, refusal, row_buffer, fault, accepted, verdict}
@@ -17,12 +17,11 @@ use Rattle.theory_calls.specs.AtBits.{bits_row}
 use Rattle.theory_calls.specs.Calls.{Plain, PlainOf, does}
 use Rattle.theory_calls.proofs.Refusals.{Without}
 use Rattle.theory_calls.proofs.CallLaws.{does_good}
+use Rattle.check_refusal.specs.declared.Refusal.TheVariants.{Inputs, Buffer}
+use Rattle.check_refusal.specs.Found.{some_below}
 use Rattle.file_header.specs.declared.Counts.{Counts}
-use Rattle.file_header.specs.Opened.{Opened}
 use Rattle.file_parts.specs.Checked.{Checked}
-use Rattle.check_tests.specs.Mirror.{wrong_size}
 use Rattle.check_slices.proofs.ChainLaws.{nothing, Left, bits_stop, bits_go, sizes_stop, sizes_go}
-use Rattle.check_circuit.specs.declared.Done.TheVariants.{Good, Refused}
 use Rattle.check_circuit.specs.Answers.{done_answer, done_after}
 use Rattle.check_circuit.proofs.FrontLaws.{Front, done_given, given_passed}
 
@@ -37,35 +36,31 @@ module _ (f x vs : List ℕ) where
   unfolding Without PlainOf
   front = record { goes = refl; leaves = λ n k. refl; returns = λ n p. refl; no_13 = omega arith }
 
-  module _ (c : Counts) (k : Checked f c) (i : ℕ) (ei : i ≡ fault (bits_row x c.inputs)) where
-    abbrev o : Opened f c
-    o = k.opened
-
+  module _ (c : Counts) (k : Checked f c) where
     abbrev want : ℕ
     want = c.inputs + c.gates
 
     wanted : want ∷ [] ≡ wires (circuit f) ∷ []
-    wanted = λ j. (o.ins_are j + o.gates_are j) ∷ []
+    wanted = λ j. (k.opened.ins_are j + k.opened.gates_are j) ∷ []
 
-    pub inputs_stop : i ≤ c.inputs → done_after (Refused 7 i) (vs ∷ []) ≡ does (Plain f x vs)
-    inputs_stop l = done_given _ _ _ _ _ front k.passes 7 i (sym (bits_stop Two 7 sized x c.inputs (inputs_of f) i o.ins_are ei refl l))
+    pub inputs_stop : (i : ℕ) → Some i ≡ some_below (fault (bits_row x c.inputs)) (c.inputs + 1) → done_after (Err (Inputs i)) (vs ∷ []) ≡ does (Plain f x vs)
+    inputs_stop i e = done_given _ _ _ _ _ front k.passes (Inputs i) (bits_stop Two 7 sized x c.inputs (inputs_of f) k.opened.ins_are refl i e)
 
-    module _ (l : c.inputs < i) where
+    module _ (e : ◌≡◌ {A = Option ℕ} None (some_below (fault (bits_row x c.inputs)) (c.inputs + 1))) where
       past_7 : Left Two sized
-      past_7 = bits_go Two 7 sized x c.inputs (inputs_of f) i o.ins_are ei refl l
+      past_7 = bits_go Two 7 sized x c.inputs (inputs_of f) k.opened.ins_are refl e
 
-      pub buffer_stop : (length vs ≡ want → ⊥) → done_after (Refused 10 0) (vs ∷ []) ≡ does (Plain f x vs)
-      unfolding first wrong_size
-      buffer_stop w =
-          done_given _ _ _ _ _ front k.passes 10 0
-          (sym (sizes_stop Two [] (length vs ∷ []) (want ∷ []) _ 0 wanted (rw (ne_eqb _ _ w)) past_7 (omega arith)))
+      abbrev buffers : List (ℕ × ℕ)
+      buffers = (length vs, want) ∷ []
 
-      go_on : length vs ≡ want → verdict Two ≡ accepted
-      unfolding first wrong_size
-      go_on w = sym (nothing ∙ sizes_go Two [] (length vs ∷ []) (want ∷ []) _ 1 wanted (rw (eq-eqb _ _ w)) past_7 (omega arith))
+      pub buffer_stop : (length vs ≡ want → ⊥) → done_after (Err (Buffer 0)) (vs ∷ []) ≡ does (Plain f x vs)
+      buffer_stop w = done_given _ _ _ _ _ front k.passes (Buffer 0) (sizes_stop Two [] buffers _ _ refl wanted past_7 0 (rw (ne_eqb _ _ w)))
 
-      pub accepted_plain : length vs ≡ want → (vs' : List ℕ) → vs' ≡ plain (circuit f) x → done_after Good (vs' ∷ []) ≡ does (Plain f x vs)
+      go_on : length vs ≡ want → accepted ≡ verdict Two
+      go_on w = nothing ∙ sizes_go Two [] buffers _ _ refl wanted past_7 (rw (eq-eqb _ _ w))
+
+      pub accepted_plain : length vs ≡ want → (vs' : List ℕ) → vs' ≡ plain (circuit f) x → done_after (Ok tt) (vs' ∷ []) ≡ does (Plain f x vs)
       unfolding done_answer PlainOf
       accepted_plain w vs' d =
-          ap (λ (z : List ℕ). done_after Good (z ∷ [])) d
+          ap (λ (z : List ℕ). done_after (Ok tt) (z ∷ [])) d
           ∙ sym (does_good (Plain f x vs) (given_passed _ _ _ _ _ front k.passes (go_on w) ∙ sym nothing))

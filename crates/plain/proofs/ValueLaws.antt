@@ -19,9 +19,7 @@ use Rattle.theory_calls.specs.Plain.{bit, byte, plain_gate, plain_inputs, plain_
 use Rattle.theory_calls.proofs.PlainLaws.{inputs_length, values_length, plain_length}
 use Rattle.file_header.specs.declared.Counts.{Counts}
 use Rattle.file_parts.specs.declared.Gate.{Gate}
-use Rattle.file_parts.specs.declared.Gate.TheVariants.{Is as GateIs}
-use Rattle.file_parts.specs.Mirror.{gate_by}
-use Rattle.file_parts.proofs.ReaderLaws.{gate_some}
+use Rattle.file_parts.specs.Mirror.{gate_stored}
 use Rattle.file_parts.specs.Checked.{Checked}
 use Rattle.file_parts.proofs.CheckedLaws.{operands_lower, kind_good}
 use Rattle.file_parts.specs.Loop.{up_to}
@@ -115,30 +113,10 @@ module _ (f xs old : List ℕ) where
 -- ---- as the code meets them
 
 -- a step with what was read of a gate
-pub read_gate : (f vs : List ℕ) (c : Counts) (k kind a b v : ℕ) (r : Gate) → r ≡ gate_by f c k → r ≡ GateIs kind a b → k < c.gates → v ≡ kind_value kind (get_or vs a 0) (get_or vs b 0)
+pub read_gate : (f vs : List ℕ) (c : Counts) (k v : ℕ) (g : Gate) → g ≡ gate_stored f c k → v ≡ kind_value g.kind (get_or vs g.first 0) (get_or vs g.second 0)
     → set vs (c.inputs + k) v ≡ gate_on f c.inputs k vs
 unfolding gate_on
-read_gate f vs c k kind a b v r e q h m =
-    let s = gate_some f c k kind a b r e q h in
-    ap (set vs (c.inputs + k)) (m ∙ (λ i. kind_value (s.0 i) (get_or vs (s.1 i) 0) (get_or vs (s.2 i) 0)))
-
--- whose operands are lower wires
-pub read_lower : (f : List ℕ) (c : Counts) (k kind a b : ℕ) (r : Gate) → Checked f c → r ≡ gate_by f c k → r ≡ GateIs kind a b → k < c.gates → (a < c.inputs + k) × (b < c.inputs + k)
-read_lower f c k kind a b r o e q h =
-    let s = gate_some f c k kind a b r e q h in
-    let l = operands_lower _ _ _ _ (o.gates k h) in
-    let p = s.1 in let t = s.2 in
-    (omega arith, omega arith)
-
--- an input's value
-pub input_none : (x : ℕ) → x ≡ 0 → 0 ≡ byte (bit x)
-unfolding byte bit
-input_none x e = rw e
-
-pub input_some : (x : ℕ) → (x ≡ 0 → ⊥) → 1 ≡ byte (bit x)
-unfolding byte bit
-input_some zero h = absurd (h refl)
-input_some (suc x) h = refl
+read_gate f vs c k v g e m = ap (set vs (c.inputs + k)) (m ∙ ap (λ (z : Gate). kind_value z.kind (get_or vs z.first 0) (get_or vs z.second 0)) e)
 
 -- both passes, at the counts that the code holds
 pub values_law : (f xs old vs vs' : List ℕ) (c : Counts) → Checked f c → length xs ≡ c.inputs → length old ≡ c.inputs + c.gates

@@ -6,7 +6,7 @@
 -- Assumes nothing.
 use mathlib.Core.Path.{◌≡◌, refl, sym, ap, ap₂, ◌∙◌, subst}
 use mathlib.Core.List.{List, [], ◌∷◌, ◌++◌}
-use Prim.Native.Nat.{ℕ, ◌+◌, ◌*◌, ◌<◌, ◌≤◌}
+use Prim.Native.Nat.{ℕ, ◌+◌, ◌*◌}
 use native.Mathlib.Omega.{arith}
 use lib.ListN.{length, take}
 use lib.Seq.{take_at}
@@ -30,7 +30,10 @@ use lib.ListN.{length-append}
 use Rattle.file_header.specs.declared.Counts.{Counts}
 use Rattle.file_header.specs.Opened.{Opened}
 use Rattle.file_parts.specs.Checked.{Checked}
-use Rattle.check_circuit.specs.declared.Done.TheVariants.{Good, Refused}
+use Rattle.std.specs.Prelude.{Option, None, Some, Ok, Err}
+use Rattle.check_refusal.specs.declared.Refusal.TheVariants.{Differs}
+use Rattle.check_refusal.specs.Found.{some_below}
+use Rattle.check_refusal.proofs.FoundLaws.{some_found, none_found}
 use Rattle.check_circuit.specs.Answers.{done_answer, done_after}
 use Rattle.check_circuit.proofs.FrontLaws.{Front, given_passed}
 use Rattle.check_slices.proofs.ChainLaws.{nothing}
@@ -64,14 +67,14 @@ module _ (f x t y : List ℕ) (s : ℕ) (nt wr : List ℕ) where
   unfolding Without RetapeOf
   front = record { goes = refl; leaves = λ n k. rw (ne_eqb n 13 k); returns = λ n p. refl; no_13 = omega arith }
 
-  module _ (c : Counts) (k : Checked f c) (clear : verdict Five ≡ accepted) where
+  module _ (c : Counts) (k : Checked f c) (clear : accepted ≡ verdict Five) where
     abbrev op : Opened f c
     op = k.opened
 
     pub ready : Ready f x t y c (length nt) (length wr)
     unfolding Passes
     ready =
-        let k = accepted_passes Five clear in
+        let k = accepted_passes Five (sym clear) in
         let sizes = sizes_clear (length nt ∷ length wr ∷ []) (retape_wants (circuit f)) 2 k.1.1.1.0 in
         record {
           in_x = subst (Bits x) (sym op.ins_are) (bits_clear x (inputs_of f) k.0);
@@ -97,18 +100,20 @@ module _ (f x t y : List ℕ) (s : ℕ) (nt wr : List ℕ) where
     passed : verdict the_call.checks ≡ verdict (at_13 ∷ [])
     passed = given_passed the_call f Five (at_13 ∷ []) _ front k.passes clear
 
-    module _ (d : ℕ) (ed : d ≡ fault (row_differs (circuit f) s x y)) where
-      pub differs_refused : d < c.inputs + c.outputs → (l : List ℕ) → l ≡ fill wr (both_plain (circuit f) x y) → done_after (Refused 13 d) (nt ∷ l ∷ []) ≡ does the_call
-      unfolding done_answer RetapeOf
-      differs_refused h l b =
-          let i = op.ins_are in let o = op.outs_are in
-          ap (λ (z : List ℕ). done_after (Refused 13 d) (nt ∷ z ∷ [])) b
-          ∙ sym (does_refused the_call 13 d (passed ∙ sym (row_refuses 13 [] _ d ed (omega arith))))
+    abbrev differs : Option ℕ
+    differs = some_below (fault (row_differs (circuit f) s x y)) (c.inputs + c.outputs)
 
-      pub accepted_retape : c.inputs + c.outputs ≤ d → (l m : List ℕ) → l ≡ new_tapes bits (site_of s) (circuit f) (at_wire x) (at_wire y) t → m ≡ work_room (circuit f) x t y s
-          → done_after Good (l ∷ m ∷ []) ≡ does the_call
-      unfolding done_answer RetapeOf
-      accepted_retape h l m p b =
-          let i = op.ins_are in let o = op.outs_are in
-          ap₂ (λ (z w : List ℕ). done_after Good (z ∷ w ∷ [])) p b
-          ∙ sym (does_good the_call (passed ∙ sym (row_passes 13 [] _ d ed (omega arith)) ∙ sym nothing))
+    pub differs_refused : (d : ℕ) → Some d ≡ differs → (l : List ℕ) → l ≡ fill wr (both_plain (circuit f) x y) → done_after (Err (Differs d)) (nt ∷ l ∷ []) ≡ does the_call
+    unfolding done_answer RetapeOf
+    differs_refused d e l b =
+        let q = some_found d _ _ e in let i = op.ins_are in let o = op.outs_are in
+        ap (λ (z : List ℕ). done_after (Err (Differs d)) (nt ∷ z ∷ [])) b
+        ∙ sym (does_refused the_call 13 d (passed ∙ sym (row_refuses 13 [] _ d q.0 (omega arith))))
+
+    pub accepted_retape : ◌≡◌ {A = Option ℕ} None differs → (l m : List ℕ) → l ≡ new_tapes bits (site_of s) (circuit f) (at_wire x) (at_wire y) t → m ≡ work_room (circuit f) x t y s
+        → done_after (Ok tt) (l ∷ m ∷ []) ≡ does the_call
+    unfolding done_answer RetapeOf
+    accepted_retape e l m p b =
+        let h = none_found _ _ e in let i = op.ins_are in let o = op.outs_are in
+        ap₂ (λ (z w : List ℕ). done_after (Ok tt) (z ∷ w ∷ [])) p b
+        ∙ sym (does_good the_call (passed ∙ sym (row_passes 13 [] _ _ refl (omega arith)) ∙ sym nothing))

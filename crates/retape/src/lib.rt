@@ -1,131 +1,103 @@
 // Re-taping: the tapes that explain one site's view by other inputs.
 #![tactic(auto)]
 
-ghost use Rattle.std.specs.Prelude.{◌≡◌, [], ◌∷◌, ◌≤◌, length};
-ghost use Rattle.theory_sharing.specs.Circuit.{ands};
-ghost use Rattle.theory_calls.specs.File.{circuit};
+ghost use Rattle.std.specs.Prelude.{◌≡◌, [], ◌∷◌, length, IfOk};
 ghost use Rattle.theory_calls.specs.Checks.{accepted, verdict};
 ghost use Rattle.theory_calls.specs.Calls.{Retape, does};
-ghost use Rattle.file_header.specs.Opened.{Opened};
-ghost use Rattle.file_parts.specs.Checked.{Checked};
+ghost use Rattle.check_refusal.specs.Found.{found};
+ghost use Rattle.check_tests.specs.Seat.{number_of};
 ghost use Rattle.check_circuit.specs.Answers.{done_after};
-ghost use Rattle.check_given.specs.Mirror.{found};
 ghost use Rattle.retape.specs.Mirror.{retape_checks};
 
-use check_circuit::Done;
-use check_given::Fault;
-use file_header::{Counts, Header};
+use check_refusal::Refusal;
+use check_tests::Site;
+use file_counts::Counted;
+use file_reader::Circuit;
 
-// 7, 8, 11, 10 and 12 on an opened circuit of a AND and OR gates: slices, the site, the lengths of both buffers, the second inputs.
-fn given_fault(
-    file: &[u8],
-    c: Counts,
-    a: usize,
+// 7, 8, 11, 10 and 12 on a circuit of which A is known: slices, the site, the lengths of both buffers, the second inputs. The answer is the site.
+fn given(
+    c: &Counted<'_>,
     inputs: &[u8],
     tapes: &[u8],
     second: &[u8],
     site: usize,
     fresh: usize,
     room: usize,
-) -> Fault
-    requires { Opened file.now c × (a ≡ ands (circuit file.now).gate c.gates) × (a ≤ c.gates) }
-    ensures { found result ≡ verdict (retape_checks file.now inputs.now tapes.now second.now site fresh room) }
+) -> Result<Site, Refusal>
+    ensures checks { found result ≡ verdict (retape_checks c.now.circuit.file.now inputs.now tapes.now second.now site fresh room) }
+    ensures seated { IfOk result (λ s. site ≡ number_of s) }
 {
-    let f = check_given::slices_fault(file, c, a, inputs, tapes);
-    if f.number != 0 {
-        return f;
+    check_given::slices(c, inputs, tapes)?;
+    let seat = Site::try_from(site)?;
+    let counts = c.circuit.counts;
+    let buffers = [
+        (fresh, 2 * counts.inputs + 6 * c.ands),
+        (room, 4 * (counts.inputs + counts.gates)),
+    ];
+    if let Some(buffer) = check_slices::first_size(&buffers) {
+        return Err(Refusal::Buffer(buffer));
     }
-    if !check_tests::site_good(site) {
-        return Fault {
-            number: 11,
-            place: 0,
-        };
+    if let Some(place) = check_slices::bits_fault(second, counts.inputs) {
+        return Err(Refusal::Second(place));
     }
-    let sizes = [fresh, room];
-    let wants = [2 * c.inputs + 6 * a, 4 * (c.inputs + c.gates)];
-    let b = check_slices::first_size(&sizes, &wants);
-    if b < 2 {
-        return Fault {
-            number: 10,
-            place: b,
-        };
-    }
-    let y = check_slices::bits_fault(second, c.inputs);
-    if y <= c.inputs {
-        return Fault {
-            number: 12,
-            place: y,
-        };
-    }
-    Fault {
-        number: 0,
-        place: 0,
-    }
+    Ok(seat)
 }
 
 // Behind 12: both sets of plain values, 13 on them, then the new tapes. It makes the last check itself, since what 13 looks at stands in the
 // work room. What is behind 1 to 6 asks it.
 pub fn retape_given(
-    file: &[u8],
-    c: Counts,
-    a: usize,
+    c: &Counted<'_>,
     inputs: &[u8],
     tapes: &[u8],
     second: &[u8],
-    site: usize,
+    site: Site,
     fresh: &mut [u8],
     room: &mut [u8],
-) -> Done
-    requires checked { Checked file.now c × (a ≡ ands (circuit file.now).gate c.gates) × (a ≤ c.gates) }
-    requires room_value { verdict (retape_checks file.now inputs.now tapes.now second.now site (length fresh.old) (length room.old)) ≡ accepted }
+) -> Result<(), Refusal>
+    requires { verdict (retape_checks c.now.circuit.file.now inputs.now tapes.now second.now (number_of site) (length fresh.old) (length room.old)) ≡ accepted }
     ensures { done_after result (fresh.new ∷ room.new ∷ [])
-        ≡ does (Retape file.now inputs.now tapes.now second.now site fresh.old room.old) }
+        ≡ does (Retape c.now.circuit.file.now inputs.now tapes.now second.now (number_of site) fresh.old room.old) }
 {
-    retape_tapes::both_values(file, c, inputs, second, room);
-    let d = retape_differs::differ(file, c, site, inputs, second, room);
-    if d < c.inputs + c.outputs {
-        return Done::Refused(13, d);
+    retape_tapes::both_values(&c.circuit, inputs, second, room);
+    if let Some(place) = retape_differs::differ(&c.circuit, site, inputs, second, room) {
+        return Err(Refusal::Differs(place));
     }
-    retape_tapes::renew(file, c, a, site, inputs, second, tapes, fresh, room);
-    Done::Good
+    retape_tapes::renew(c, site, inputs, second, tapes, fresh, room);
+    Ok(())
 }
 
-// Behind checks 1 to 6, on the counts that they gave: A is counted, 7, 8, 11, 10 and 12 are made, then what is behind 12. The public re-taping
-// asks it, and any other form of one that has its circuit checked first.
+// Behind checks 1 to 6: A is counted, 7, 8, 11, 10 and 12 are made, then what is behind 12. The public re-taping asks it, and any other form of
+// one that has its circuit checked first.
 pub fn retape_opened(
-    file: &[u8],
-    c: Counts,
+    c: &Circuit<'_>,
     inputs: &[u8],
     tapes: &[u8],
     second: &[u8],
     site: usize,
     fresh: &mut [u8],
     room: &mut [u8],
-) -> Done
-    requires { Checked file.now c }
+) -> Result<(), Refusal>
     ensures { done_after result (fresh.new ∷ room.new ∷ [])
-        ≡ does (Retape file.now inputs.now tapes.now second.now site fresh.old room.old) }
+        ≡ does (Retape c.now.file.now inputs.now tapes.now second.now site fresh.old room.old) }
 {
-    let a = file_counts::count_ands(file, c);
-    let f = given_fault(
-        file,
-        c,
-        a,
+    let counted = Counted {
+        circuit: *c,
+        ands: file_counts::count_ands(c),
+    };
+    let seat = given(
+        &counted,
         inputs,
         tapes,
         second,
         site,
         fresh.len(),
         room.len(),
-    );
-    if f.number != 0 {
-        return Done::Refused(f.number, f.place);
-    }
-    retape_given(file, c, a, inputs, tapes, second, site, fresh, room)
+    )?;
+    retape_given(&counted, inputs, tapes, second, seat, fresh, room)
 }
 
 // PUBLIC. Re-taping, whatever is given. New tapes and work room are lent; a refusal leaves both as they were, but 13 leaves both sets of
-// plain values in the first 2W bytes of the work room.
+// plain values in the first 2W bytes of the work room. The site is a number, as C hands it on: 11 is what is asked of it.
 pub fn retape(
     file: &[u8],
     inputs: &[u8],
@@ -134,13 +106,18 @@ pub fn retape(
     site: usize,
     fresh: &mut [u8],
     room: &mut [u8],
-) -> Done
+) -> Result<(), Refusal>
     ensures { done_after result (fresh.new ∷ room.new ∷ [])
         ≡ does (Retape file.now inputs.now tapes.now second.now site fresh.old room.old) }
 {
-    let h = check_circuit::check_file(file);
-    let Header::Good(c) = h else {
-        return check_circuit::refused(h);
-    };
-    retape_opened(file, c, inputs, tapes, second, site, fresh, room)
+    let counts = check_circuit::check_file(file)?;
+    retape_opened(
+        &Circuit { file, counts },
+        inputs,
+        tapes,
+        second,
+        site,
+        fresh,
+        room,
+    )
 }

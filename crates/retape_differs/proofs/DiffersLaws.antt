@@ -1,52 +1,36 @@
 -- 13, as the code goes through it, is theory_calls' row.
---     own_yes, own_no                     the test of an own input, and that of another site's
 --     own_place, opened_place, no_place   the place of 13, by the first of each test
---     own_fault, opened_fault             which is the row's fault
+--     own_fault, opened_fault, no_fault   which is the row's fault
 -- Assumes nothing.
 use mathlib.Core.Path.{◌≡◌, refl, sym, ap, ap₂, ◌∙◌, subst}
-use mathlib.Core.Logic.{⊎_elim}
-use mathlib.Core.Bool.{Bool, true, false, not, cond, ◌&&◌}
+use Rattle.std.specs.Prelude.{Option, None, Some}
+use mathlib.Core.Bool.{Bool, true, false, not}
 use mathlib.Core.List.{List}
 use Prim.Native.Nat.{ℕ, ◌+◌, ◌*◌, ◌-◌, ◌<◌, ◌≤◌}
 use native.Mathlib.Omega.{arith}
-use native.Mathlib.Nat.{eq-or-lt_of_le, le_of_eq}
 use lib.ListN.{length, get_or, take, get_or-append}
 use lib.Seq.{get_or-take, get_or-append-add}
 use lib.Dec.{eqb, ltb}
-use borrow.Author.Tests.{lt-ltb, le-ltb, ltb-true, ltb-false, eq-eqb, ne_eqb}
-use Rattle.theory_sharing.specs.Sites.{Site, is}
+use borrow.Author.Tests.{lt-ltb, le-ltb, ltb-true, ltb-false}
+use Rattle.theory_sharing.specs.Sites.{Site}
 use Rattle.theory_sharing.specs.Circuit.{Circuit, wires}
 use Rattle.theory_sharing.specs.First.{first}
-use Rattle.theory_sharing.proofs.FirstLaws.{first_at, first_none, first_hit, first_before, first_le}
-use Rattle.theory_calls.specs.File.{output_at, site_of, circuit}
+use Rattle.theory_sharing.proofs.FirstLaws.{first_at, first_none, first_hit, first_before}
+use Rattle.theory_calls.specs.File.{output_at, circuit}
 use Rattle.theory_calls.specs.Checks.{fault}
 use Rattle.theory_calls.specs.Plain.{plain, plain_out}
 use Rattle.theory_calls.specs.Calls.{both_plain_of}
 use Rattle.theory_calls.specs.AtBits.{row_differs, both_plain}
 use Rattle.theory_calls.proofs.PlainLaws.{plain_length}
 use Rattle.theory_calls.proofs.RowLaws.{differs}
+use Rattle.check_refusal.specs.Found.{some_below}
+use Rattle.check_refusal.proofs.FoundLaws.{some_is, none_is, some_found, none_found}
+use Rattle.check_tests.specs.declared.Site.{Site as Seated}
+use Rattle.check_tests.specs.Seat.{seat, number_of}
+use Rattle.check_tests.proofs.SeatLaws.{seat_is}
 use Rattle.file_header.specs.declared.Counts.{Counts}
 use Rattle.file_parts.specs.Checked.{Checked}
 use Rattle.retape_differs.specs.Mirror.{own_differs, opened_differs}
-
--- whose input k is, as it was asked
-module _ (f x y : List ℕ) (s : Site) (k r : ℕ) (e : r ≡ cond (is s ((circuit f).owner k)) 1 0) where
-  abbrev unlike : Bool
-  unlike = not (eqb (get_or x k 0) (get_or y k 0))
-
-  own_law : (eqb r 1 && unlike) ≡ own_differs f s x y k
-  unfolding own_differs
-  own_law = ap (λ (z : ℕ). eqb z 1 && unlike) e ∙ go (is s ((circuit f).owner k))
-    where
-      go : (b : Bool) → (eqb (cond b 1 0) 1 && unlike) ≡ (b && unlike)
-      go true = refl
-      go false = refl
-
-  pub own_yes : r ≡ 1 → unlike ≡ own_differs f s x y k
-  own_yes d = ap (λ (b : Bool). b && unlike) (sym (eq-eqb r 1 d)) ∙ own_law
-
-  pub own_no : (r ≡ 1 → ⊥) → false ≡ own_differs f s x y k
-  own_no d = ap (λ (b : Bool). b && unlike) (sym (ne_eqb r 1 d)) ∙ own_law
 
 -- the place of 13
 module _ (f x y : List ℕ) (s : Site) (c : Counts) (ck : Checked f c) where
@@ -132,16 +116,39 @@ module _ (f x y : List ℕ) (s : Site) (c : Counts) (ck : Checked f c) where
       no_place h = let n = ck.opened.outs_are in sym (first_none bad (C.ins + C.outs) (λ k l. before k (omega arith) l))
 
 -- so the place of 13 is the row's fault
-module _ (f x y : List ℕ) (site : ℕ) (c : Counts) (ck : Checked f c) (i : ℕ) (ei : i ≡ first (own_differs f (site_of site) x y) c.inputs) where
-  pub own_fault : i < c.inputs → i ≡ fault (row_differs (circuit f) site x y)
-  unfolding fault
-  own_fault h = own_place f x y (site_of site) c ck i ei h
+module _ (f x y : List ℕ) (site : Seated) (c : Counts) (ck : Checked f c) where
+  abbrev all : ℕ
+  all = (circuit f).ins + (circuit f).outs
 
-  pub opened_fault : (room : List ℕ) → take (2 * (c.inputs + c.gates)) room ≡ both_plain (circuit f) x y → c.inputs ≤ i
-      → (j : ℕ) → j ≡ first (opened_differs f c.inputs c.gates room) c.outputs → c.inputs + j ≡ fault (row_differs (circuit f) site x y)
+  abbrev place : ℕ
+  place = fault (row_differs (circuit f) (number_of site) x y)
+
+  abbrev own : ℕ
+  own = first (own_differs f (seat site) x y) c.inputs
+
+  place_is : place ≡ first (differs (seat site) (circuit f) x y) all
   unfolding fault
-  opened_fault room hr hi j ej =
-      ⊎_elim
-      (λ e. (λ q. ck.opened.ins_are q + (e ∙ ck.opened.outs_are) q) ∙ no_place f x y (site_of site) c ck room hr i ei hi j ej (le_of_eq (sym e)))
-      (λ h. opened_place f x y (site_of site) c ck room hr i ei hi j ej h)
-      (eq-or-lt_of_le (subst (λ (z : ℕ). z ≤ c.outputs) (sym ej) (first_le (opened_differs f c.inputs c.gates room) c.outputs)))
+  place_is = ap (λ (s : Site). first (differs s (circuit f) x y) all) (sym (seat_is site))
+
+  at_place : (i : ℕ) → i ≡ first (differs (seat site) (circuit f) x y) all → i < c.inputs + c.outputs → Some i ≡ some_below place (c.inputs + c.outputs)
+  at_place i e h = some_is i (c.inputs + c.outputs) h ∙ ap (λ (k : ℕ). some_below k (c.inputs + c.outputs)) (e ∙ sym place_is)
+
+  pub own_fault : (i : ℕ) → Some i ≡ some_below own c.inputs → Some i ≡ some_below place (c.inputs + c.outputs)
+  own_fault i e =
+      let q = some_found i own c.inputs e in let l : i < c.inputs = omega arith in
+      at_place i (own_place f x y (seat site) c ck i q.0 l) (omega arith)
+
+  module _ (room : List ℕ) (hr : take (2 * (c.inputs + c.gates)) room ≡ both_plain (circuit f) x y) (hi : ◌≡◌ {A = Option ℕ} None (some_below own c.inputs)) where
+    abbrev opened : ℕ
+    opened = first (opened_differs f c.inputs c.gates room) c.outputs
+
+    pub opened_fault : (j : ℕ) → Some j ≡ some_below opened c.outputs → Some (c.inputs + j) ≡ some_below place (c.inputs + c.outputs)
+    opened_fault j e =
+        let q = some_found j opened c.outputs e in let l : j < c.outputs = omega arith in
+        at_place (c.inputs + j) (opened_place f x y (seat site) c ck room hr own refl (none_found own c.inputs hi) j q.0 l) (omega arith)
+
+    pub no_fault : ◌≡◌ {A = Option ℕ} None (some_below opened c.outputs) → ◌≡◌ {A = Option ℕ} None (some_below place (c.inputs + c.outputs))
+    no_fault e =
+        let p = no_place f x y (seat site) c ck room hr own refl (none_found own c.inputs hi) opened refl (none_found opened c.outputs e) in
+        let q = place_is in let i = ck.opened.ins_are in let o = ck.opened.outs_are in
+        none_is place (c.inputs + c.outputs) (omega arith)

@@ -4,10 +4,11 @@
 --     St, st             the work room, the next site's new tape, and the running places
 --     further            places so many bits further on; two of them after an AND or OR
 --     flip_by, flipped   part 1 added to, where a site holds it
+--     operand, operand_at    an operand of an AND; a wire as one
 --     mixed              an AND: the site's new pair, the next site's two draws
 --     put_two            two draws on a tape
 --     put_wire, wire_in  a wire's pair in the work room, written and read
---     and_on, xor_on, not_on, gate_on    a gate
+--     and_on, xor_on, not_on, gate_on    a gate;  step_on: by its step
 use Rattle.std.specs.Prelude.{List, ℕ, ◌+◌, ◌*◌, ◌≤◌, get_or, set}
 use Rattle.theory_sharing.specs.Ops.{bits}
 use Rattle.theory_sharing.specs.Sites.{Site, s1, s2, s3}
@@ -18,6 +19,8 @@ use Rattle.run_site.specs.Mirror.{pair_at, put_at}
 use Rattle.run_messages.specs.Mirror.{two, pair_of}
 use Rattle.run_messages.specs.declared.Two.{Two}
 use Rattle.run_steps.specs.Mirror.{lent, on_part}
+use Rattle.run_passes.specs.declared.Step.{Step}
+use Rattle.run_passes.specs.declared.Step.TheVariants.{Add, Flip, Deal}
 use Rattle.retape_pairs.specs.declared.Places.{Places}
 use Rattle.retape_pairs.specs.declared.Mixed.{Mixed}
 
@@ -52,16 +55,25 @@ flip_by s3 o p = (p.0, bits.add p.1 o)
 unfoldable pub flipped : Site → ℕ → Two → Two
 flipped s o p = two (flip_by s o (pair_of p)).0 (flip_by s o (pair_of p)).1
 
-unfoldable pub mixed : List ℕ → List ℕ → List ℕ → Places → Two → Two → ℕ → ℕ → ℕ → ℕ → Mixed
-mixed own next prev at p q u v y z =
+-- an operand of an AND: the site's pair, and the wire's value under the first inputs and under the second
+pub record Operand : Type 0 where
+  pub pair : Two
+  pub first : ℕ
+  pub second : ℕ
+
+abbrev pub operand : Two → ℕ → ℕ → Operand
+operand p u y = record { pair = p; first = u; second = y }
+
+unfoldable pub mixed : List ℕ → List ℕ → List ℕ → Places → Operand → Operand → Mixed
+mixed own next prev at p q =
     let a : ℕ = get_or own at.own 0 in
     let b : ℕ = get_or own (at.own + 1) 0 in
     let c : ℕ = get_or next at.next 0 in
     let d : ℕ = get_or next (at.next + 1) 0 in
-    let first : ℕ = next_product bits (pair_of p) u (pair_of q) v in
-    let second : ℕ = next_product bits (pair_of p) y (pair_of q) z in
+    let first : ℕ = next_product bits (pair_of p.pair) p.first (pair_of q.pair) q.first in
+    let second : ℕ = next_product bits (pair_of p.pair) p.second (pair_of q.pair) q.second in
     record {
-      pair = two (bits.add (rest bits (local bits (pair_of p) (pair_of q)) a b) (bits.add d (get_or prev at.prev 0)))
+      pair = two (bits.add (rest bits (local bits (pair_of p.pair) (pair_of q.pair)) a b) (bits.add d (get_or prev at.prev 0)))
           (bits.add a (bits.add (rest bits first c d) (get_or prev (at.prev + 1) 0)));
       first = bits.add c (bits.sub second first);
       second = d;
@@ -77,6 +89,11 @@ wire_in n w l = pair_at (lent (2 * n) (4 * n) l) w
 abbrev pub put_wire : ℕ → ℕ → Pair → List ℕ → List ℕ
 put_wire n w v l = on_part (2 * n) (4 * n) (put_at w v) l
 
+-- an operand with part 1 flipped by o: the pair, the two values
+unfoldable pub operand_at : Site → ℕ → ℕ → ℕ → List ℕ → Operand
+operand_at s n w o l =
+    operand (flipped s o (two (wire_in n w l).0 (wire_in n w l).1)) (bits.add (get_or l w 0) o) (bits.add (get_or l (n + w) 0) o)
+
 unfoldable pub xor_on : ℕ → ℕ → ℕ → ℕ → List ℕ → List ℕ
 xor_on n a b w l = put_wire n w (add_pair bits (wire_in n a l) (wire_in n b l)) l
 
@@ -88,9 +105,7 @@ module _ (s : Site) (own next prev : List ℕ) (n : ℕ) where
   unfoldable pub and_on : ℕ → ℕ → ℕ → ℕ → St → St
   and_on a b w o x =
       let l : List ℕ = x.room in
-      let p : Two = flipped s o (two (wire_in n a l).0 (wire_in n a l).1) in
-      let q : Two = flipped s o (two (wire_in n b l).0 (wire_in n b l).1) in
-      let m : Mixed = mixed own next prev x.at p q (bits.add (get_or l a 0) o) (bits.add (get_or l b 0) o) (bits.add (get_or l (n + a) 0) o) (bits.add (get_or l (n + b) 0) o) in
+      let m : Mixed = mixed own next prev x.at (operand_at s n a o l) (operand_at s n b o l) in
       st (put_wire n w (pair_of (flipped s o m.pair)) l) (put_two x.at.next m.first m.second x.moved) (further x.at 2)
 
   -- wire w becomes this gate's
@@ -99,3 +114,9 @@ module _ (s : Site) (own next prev : List ℕ) (n : ℕ) where
   gate_on w (AND a b) x = and_on a b w 0 x
   gate_on w (OR a b) x = and_on a b w 1 x
   gate_on w (NOT a) x = st (not_on s n a w x.room) x.moved x.at
+
+  -- by the step that a gate is
+  abbrev pub step_on : ℕ → Step → St → St
+  step_on w (Add a b) x = st (xor_on n a b w x.room) x.moved x.at
+  step_on w (Flip a) x = st (not_on s n a w x.room) x.moved x.at
+  step_on w (Deal a b o) x = and_on a b w o x

@@ -7,17 +7,17 @@ ghost use Rattle.theory_sharing.specs.Ops.{bits};
 ghost use Rattle.theory_sharing.specs.Circuit.{dealing};
 ghost use Rattle.theory_sharing.specs.Steps.{local};
 ghost use Rattle.theory_sharing.specs.Retape.{next_product};
-ghost use Rattle.theory_calls.specs.File.{circuit, gate_of, site_of};
+ghost use Rattle.theory_calls.specs.File.{circuit};
+ghost use Rattle.check_tests.specs.Seat.{seat};
 ghost use Rattle.run_site.specs.Mirror.{put_at, two_at};
 ghost use Rattle.run_messages.specs.Mirror.{pair_of};
 ghost use Rattle.run_steps.specs.Mirror.{lent, on_part};
-ghost use Rattle.file_parts.specs.Checked.{Checked};
-ghost use Rattle.run_passes.specs.Mirror.{Lower};
-ghost use Rattle.retape_pairs.specs.Mirror.{Fits, st, further, flipped, mixed, put_two, and_on, xor_on, not_on, gate_on};
+ghost use Rattle.retape_pairs.specs.Mirror.{Fits, st, further, flipped, mixed, operand, put_two, and_on, xor_on, not_on, gate_on};
 
-use file_header::Counts;
-use file_parts::Gate;
+use check_tests::Site;
+use file_reader::Circuit;
 use run_messages::Two;
+use run_passes::Step;
 
 // The running places on three tapes, as a site sees them: its own, the next site's, the one's before.
 #[derive(Clone, Copy)]
@@ -25,6 +25,14 @@ pub struct Places {
     pub own: usize,
     pub next: usize,
     pub prev: usize,
+}
+
+// The three tapes, likewise.
+#[derive(Clone, Copy)]
+pub struct Tapes<'a> {
+    pub own: &'a [u8],
+    pub next: &'a [u8],
+    pub prev: &'a [u8],
 }
 
 // What an AND or OR gives: the site's new pair, and the next site's two draws, the first moved.
@@ -51,10 +59,11 @@ pub fn put_in(room: &mut [u8], n: usize, w: usize, p: Two)
     requires { (length room.old ≡ 4 * n) × (n ≤ 4096) × (w < n) }
     ensures { room.new ≡ on_part (2 * n) (4 * n) (put_at w (pair_of p)) room.old }
 {
-    run_site::put_pair(&mut room[2 * n..4 * n], w, p.x, p.y);
+    run_site::put_pair(&mut room[2 * n..4 * n], w, p);
 }
 
 // Two draws at a place of the next site's new tape.
+#[tactic(auto, unfolding(crate::specs::Mirror::put_two))]
 pub fn put_draws(moved: &mut [u8], at: usize, x: u8, y: u8)
     requires { (at + 1 < length moved.old) × (length moved.old ≤ 65536) }
     ensures { moved.new ≡ put_two at x y moved.old }
@@ -76,16 +85,15 @@ fn beyond(from: Places, t: usize) -> Places
 }
 
 // o added to part 1, if the site holds it.
-pub fn flip(site: usize, o: u8, p: Two) -> Two
-    ensures { result ≡ flipped (site_of site) o p }
+#[tactic(auto, unfolding(crate::specs::Mirror::flipped))]
+pub fn flip(site: Site, o: u8, p: Two) -> Two
+    ensures { result ≡ flipped (seat site) o p }
 {
-    if site == 1 {
-        return Two { x: p.x ^ o, y: p.y };
+    match site {
+        Site::One => Two { x: p.x ^ o, ..p },
+        Site::Two => p,
+        Site::Three => Two { y: p.y ^ o, ..p },
     }
-    if site == 2 {
-        return p;
-    }
-    Two { x: p.x, y: p.y ^ o }
 }
 
 // The site's own product of two wires.
@@ -95,7 +103,8 @@ fn product(p: Two, q: Two) -> u8
     (p.x & q.x) ^ (p.x & q.y) ^ (p.y & q.x)
 }
 
-// The next site's: from the parts that both hold and those that this one lacks, u and v being the two values.
+// The next site's: from the parts that both hold and those that this one lacks, u and v being the two values. The bits of an operand stay
+// apart, here and below: as a struct of four they were packed into a word and taken apart again, 28 instructions of an AND.
 fn next_product(p: Two, u: u8, q: Two, v: u8) -> u8
     ensures { result ≡ next_product bits (pair_of p) u (pair_of q) v }
 {
@@ -112,28 +121,17 @@ fn change(p: Two, q: Two, u: u8, v: u8, y: u8, z: u8) -> u8
 }
 
 // An AND of two wires with pairs p and q, values u and v under the first inputs, y and z under the second.
-fn mix(
-    own: &[u8],
-    next: &[u8],
-    prev: &[u8],
-    at: Places,
-    p: Two,
-    q: Two,
-    u: u8,
-    v: u8,
-    y: u8,
-    z: u8,
-) -> Mixed
-    requires { Fits 1 (length own.now) (length next.now) (length prev.now) at }
-    ensures { result ≡ mixed own.now next.now prev.now at p q u v y z }
+fn mix(tapes: &Tapes<'_>, at: Places, p: Two, q: Two, u: u8, v: u8, y: u8, z: u8) -> Mixed
+    requires { Fits 1 (length tapes.now.own.now) (length tapes.now.next.now) (length tapes.now.prev.now) at }
+    ensures { result ≡ mixed tapes.now.own.now tapes.now.next.now tapes.now.prev.now at (operand p u y) (operand q v z) }
 {
     let first = next_product(p, u, q, v);
     let moved = change(p, q, u, v, y, z);
-    let k = run_messages::deal(own, at.own, product(p, q));
-    let m = run_messages::deal(next, at.next, first);
+    let k = run_messages::deal(tapes.own, at.own, product(p, q));
+    let m = run_messages::deal(tapes.next, at.next, first);
     let t = at.prev;
-    let x = k.d ^ (m.b ^ prev[t]);
-    let y = k.a ^ (m.d ^ prev[t + 1]);
+    let x = k.d ^ (m.b ^ tapes.prev[t]);
+    let y = k.a ^ (m.d ^ tapes.prev[t + 1]);
     Mixed {
         pair: Two { x, y },
         first: m.a ^ moved,
@@ -141,12 +139,11 @@ fn mix(
     }
 }
 
-// AND (o is 0) and OR (o is 1): "flip part 1 of both operands, AND, flip part 1 of the result".
+// AND (o is 0) and OR (o is 1): "flip part 1 of both operands, AND, flip part 1 of the result". The slices and the wires stay apart, as in
+// run_passes.
 fn and_gate(
-    site: usize,
-    own: &[u8],
-    next: &[u8],
-    prev: &[u8],
+    site: Site,
+    tapes: &Tapes<'_>,
     room: &mut [u8],
     moved: &mut [u8],
     n: usize,
@@ -159,9 +156,9 @@ fn and_gate(
 ) -> usize
     requires room_len { (length room.old ≡ 4 * n) × (n ≤ 4096) }
     requires a_lt_w { (a < w) × (b < w) × (w < n) }
-    requires fits { Fits 1 (length own.now) (length next.now) (length prev.now) (further from t) × (length moved.old ≡ length next.now) }
+    requires fits { Fits 1 (length tapes.now.own.now) (length tapes.now.next.now) (length tapes.now.prev.now) (further from t) × (length moved.old ≡ length tapes.now.next.now) }
     ensures { st room.new moved.new (further from result)
-        ≡ and_on (site_of site) own.now next.now prev.now n a b w o
+        ≡ and_on (seat site) tapes.now.own.now tapes.now.next.now tapes.now.prev.now n a b w o
         (st room.old moved.old (further from t)) }
 {
     let at = beyond(from, t);
@@ -171,7 +168,7 @@ fn and_gate(
     let v = room[b] ^ o;
     let y = room[n + a] ^ o;
     let z = room[n + b] ^ o;
-    let m = mix(own, next, prev, at, p, q, u, v, y, z);
+    let m = mix(tapes, at, p, q, u, v, y, z);
     put_draws(moved, at.next, m.first, m.second);
     let r = flip(site, o, m.pair);
     put_in(room, n, w, r);
@@ -179,6 +176,7 @@ fn and_gate(
 }
 
 // XOR: "each held part, xored".
+#[tactic(auto, unfolding(crate::specs::Mirror::xor_on))]
 fn xor_gate(room: &mut [u8], n: usize, a: usize, b: usize, w: usize)
     requires room_len { (length room.old ≡ 4 * n) × (n ≤ 4096) }
     requires a_lt_w { (a < w) × (b < w) × (w < n) }
@@ -186,90 +184,49 @@ fn xor_gate(room: &mut [u8], n: usize, a: usize, b: usize, w: usize)
 {
     let p = pair_in(room, n, a);
     let q = pair_in(room, n, b);
-    put_in(
-        room,
-        n,
-        w,
-        Two {
-            x: p.x ^ q.x,
-            y: p.y ^ q.y,
-        },
-    );
+    put_in(room, n, w, p ^ q);
 }
 
 // NOT: "part 1 is flipped wherever held".
-fn not_gate(site: usize, room: &mut [u8], n: usize, a: usize, w: usize)
+#[tactic(auto, unfolding(crate::specs::Mirror::not_on))]
+fn not_gate(site: Site, room: &mut [u8], n: usize, a: usize, w: usize)
     requires room_len { (length room.old ≡ 4 * n) × (n ≤ 4096) }
     requires a_lt_w { (a < w) × (w < n) }
-    ensures { room.new ≡ not_on (site_of site) n a w room.old }
+    ensures { room.new ≡ not_on (seat site) n a w room.old }
 {
     let p = flip(site, 1, pair_in(room, n, a));
     put_in(room, n, w, p);
 }
 
-// A gate of any kind.
-fn kind_step(
-    site: usize,
-    own: &[u8],
-    next: &[u8],
-    prev: &[u8],
-    room: &mut [u8],
-    moved: &mut [u8],
-    n: usize,
-    kind: u16,
-    a: usize,
-    b: usize,
-    w: usize,
-    from: Places,
-    t: usize,
-) -> usize
-    requires room_len { (length room.old ≡ 4 * n) × (n ≤ 4096) }
-    requires lower { Lower (gate_of kind a b) w × (w < n) }
-    requires fits { Fits (dealing (gate_of kind a b)) (length own.now) (length next.now) (length prev.now) (further from t) × (length moved.old ≡ length next.now) }
-    ensures { st room.new moved.new (further from result)
-        ≡ gate_on (site_of site) own.now next.now prev.now n w (gate_of kind a b)
-        (st room.old moved.old (further from t)) }
-{
-    if kind == 1 {
-        xor_gate(room, n, a, b, w);
-        return t;
-    }
-    if kind == 3 {
-        not_gate(site, room, n, a, w);
-        return t;
-    }
-    let o = run_steps::or_bit(kind);
-    and_gate(site, own, next, prev, room, moved, n, a, b, w, o, from, t)
-}
-
-// Gate k of a checked file, t bits behind where the first gate found the tapes. All three move in step from there on.
+// Gate k, t bits behind where the first gate found the tapes. All three move in step from there on.
 pub fn gate_step(
-    file: &[u8],
-    c: Counts,
-    site: usize,
-    own: &[u8],
-    next: &[u8],
-    prev: &[u8],
+    c: &Circuit<'_>,
+    site: Site,
+    tapes: &Tapes<'_>,
     room: &mut [u8],
     moved: &mut [u8],
     k: usize,
     from: Places,
     t: usize,
 ) -> usize
-    requires checked { Checked file.now c × (k < c.gates) }
-    requires room_len { length room.old ≡ 4 * (c.inputs + c.gates) }
-    requires fits { Fits (dealing ((circuit file.now).gate k)) (length own.now) (length next.now) (length prev.now) (further from t) × (length moved.old ≡ length next.now) }
+    requires k_lt_gates { k < c.now.counts.gates }
+    requires room_len { length room.old ≡ 4 * (c.now.counts.inputs + c.now.counts.gates) }
+    requires fits { Fits (dealing ((circuit c.now.file.now).gate k)) (length tapes.now.own.now) (length tapes.now.next.now) (length tapes.now.prev.now) (further from t) × (length moved.old ≡ length tapes.now.next.now) }
     ensures { st room.new moved.new (further from result)
-        ≡ gate_on (site_of site) own.now next.now prev.now (c.inputs + c.gates) (c.inputs + k)
-        ((circuit file.now).gate k) (st room.old moved.old (further from t)) }
+        ≡ gate_on (seat site) tapes.now.own.now tapes.now.next.now tapes.now.prev.now (c.now.counts.inputs + c.now.counts.gates)
+        (c.now.counts.inputs + k) ((circuit c.now.file.now).gate k) (st room.old moved.old (further from t)) }
 {
-    let n = c.inputs + c.gates;
-    let w = c.inputs + k;
-    let r = file_reader::gate_with(file, c, k);
-    let Gate::Is(kind, a, b) = r else {
-        return t;
-    };
-    kind_step(
-        site, own, next, prev, room, moved, n, kind, a as usize, b as usize, w, from, t,
-    )
+    let n = c.wires();
+    let w = c.counts.inputs + k;
+    match run_passes::step_at(c, k) {
+        Step::Add(a, b) => {
+            xor_gate(room, n, a, b, w);
+            t
+        }
+        Step::Flip(a) => {
+            not_gate(site, room, n, a, w);
+            t
+        }
+        Step::Deal(a, b, o) => and_gate(site, tapes, room, moved, n, a, b, w, o, from, t),
+    }
 }

@@ -32,7 +32,7 @@ use Rattle.run_passes.specs.Mirror.{Lower}
 use Rattle.run_laws.proofs.FillLaws.{fill_two}
 use Rattle.retape_pairs.specs.declared.Places.{Places}
 use Rattle.retape_pairs.specs.declared.Mixed.{Mixed}
-use Rattle.retape_pairs.specs.Mirror.{St, st, places, further, flip_by, flipped, mixed, put_two, wire_in, put_wire, and_on, xor_on, not_on, gate_on}
+use Rattle.retape_pairs.specs.Mirror.{St, st, places, further, flip_by, flipped, mixed, Operand, operand_at, put_two, wire_in, put_wire, and_on, xor_on, not_on, gate_on}
 use Rattle.retape_pairs.proofs.PairLaws.{places_eq}
 use Rattle.retape_passes.specs.Mirror.{around, room_with, state}
 use Rattle.retape_passes.proofs.StateLaws.{parts_many, st_eq, wire_get, value_get, wire_put, at_own, at_next, at_prev}
@@ -121,20 +121,20 @@ module _ (s : Site) (C : Circuit) (x y : ℕ → ℕ) (own nx pv B old fresh : L
     unfolding draws
     second_prev = ap (λ (l : List ℕ). get_or l (here.prev + 1) 0) (sym (at_prev s own nx pv))
 
-    module _ (p q : Two) (u v u' v' : ℕ) where
+    module _ (p q : Operand) where
       abbrev mix : Mixed
-      mix = mixed own nx pv here p q u v u' v'
+      mix = mixed own nx pv here p q
 
-      mix_pair : pair_of mix.pair ≡ product_mine bit_group s (T.g1 g) (T.g2 g) (pair_of p) u (pair_of q) v
+      mix_pair : pair_of mix.pair ≡ product_mine bit_group s (T.g1 g) (T.g2 g) (pair_of p.pair) p.first (pair_of q.pair) q.first
       unfolding mixed product_mine
       mix_pair = λ i. (
-        bits.add (rest bits (local bits (pair_of p) (pair_of q)) (first_own i) (second_own i)) (bits.add (second_next i) (first_prev i)),
-        bits.add (first_own i) (bits.add (rest bits (next_product bits (pair_of p) u (pair_of q) v) (first_next i) (second_next i)) (second_prev i)),
+        bits.add (rest bits (local bits (pair_of p.pair) (pair_of q.pair)) (first_own i) (second_own i)) (bits.add (second_next i) (first_prev i)),
+        bits.add (first_own i) (bits.add (rest bits (next_product bits (pair_of p.pair) p.first (pair_of q.pair) q.first) (first_next i) (second_next i)) (second_prev i)),
       )
 
-      mix_first : mix.first ≡ bits.add (T.g1 g (next s)) (bits.sub (next_product bits (pair_of p) u' (pair_of q) v') (next_product bits (pair_of p) u (pair_of q) v))
+      mix_first : mix.first ≡ bits.add (T.g1 g (next s)) (bits.sub (next_product bits (pair_of p.pair) p.second (pair_of q.pair) q.second) (next_product bits (pair_of p.pair) p.first (pair_of q.pair) q.first))
       unfolding mixed
-      mix_first = ap (λ (d : ℕ). bits.add d (bits.sub (next_product bits (pair_of p) u' (pair_of q) v') (next_product bits (pair_of p) u (pair_of q) v))) first_next
+      mix_first = ap (λ (d : ℕ). bits.add d (bits.sub (next_product bits (pair_of p.pair) p.second (pair_of q.pair) q.second) (next_product bits (pair_of p.pair) p.first (pair_of q.pair) q.first))) first_next
 
       mix_second : mix.second ≡ T.g2 g (next s)
       unfolding mixed
@@ -201,26 +201,30 @@ module _ (s : Site) (C : Circuit) (x y : ℕ → ℕ) (own nx pv B old fresh : L
         abbrev flip2 : Pair → Two
         flip2 z = flipped s o (two z.0 z.1)
 
-        abbrev mix_of : Pair → Pair → ℕ → ℕ → ℕ → ℕ → Mixed
-        mix_of p q u v u' v' = mixed own nx pv here (flip2 p) (flip2 q) (bits.add u o) (bits.add v o) (bits.add u' o) (bits.add v' o)
+        abbrev with_values : Pair → ℕ → ℕ → Operand
+        with_values z u v = record { pair = flip2 z; first = bits.add u o; second = bits.add v o }
+
+        abbrev at_a : Operand
+        at_a = with_values (get_or ms a (0, 0)) (get_or vs a 0) (get_or us a 0)
+
+        abbrev at_b : Operand
+        at_b = with_values (get_or ms b (0, 0)) (get_or vs b 0) (get_or us b 0)
 
         abbrev after_mix : Mixed → St
         after_mix z = st (put_wire n w (pair_of (flipped s o z.pair)) room) (put_two here.next z.first z.second (fill fresh written)) (further here 2)
 
         -- what the code reads is what the document has
-        reads : and_on s own nx pv n a b w o (at_state g) ≡ after_mix (mix_of (get_or ms a (0, 0)) (get_or ms b (0, 0)) (get_or vs a 0) (get_or vs b 0) (get_or us a 0) (get_or us b 0))
-        unfolding and_on state
-        reads = λ i. after_mix (mix_of (wire_is a ha i) (wire_is b hb i) (first_is a ha i) (first_is b hb i) (second_is a ha i) (second_is b hb i))
+        reads : and_on s own nx pv n a b w o (at_state g) ≡ after_mix (mixed own nx pv here at_a at_b)
+        unfolding and_on operand_at state
+        reads = λ i. after_mix (mixed own nx pv here (with_values (wire_is a ha i) (first_is a ha i) (second_is a ha i)) (with_values (wire_is b hb i) (first_is b hb i) (second_is b hb i)))
 
-        mixes : after_mix (mix_of (get_or ms a (0, 0)) (get_or ms b (0, 0)) (get_or vs a 0) (get_or vs b 0) (get_or us a 0) (get_or us b 0))
+        mixes : after_mix (mixed own nx pv here at_a at_b)
             ≡ st (put_wire n w new_pair room) (put_two here.next new_first (T.g2 g (next s)) (fill fresh written)) (further here 2)
         unfolding flipped
         mixes =
-            let p : Two = flip2 (get_or ms a (0, 0)) in
-            let q : Two = flip2 (get_or ms b (0, 0)) in
-            let e = mix_pair p q (bits.add (get_or vs a 0) o) (bits.add (get_or vs b 0) o) (bits.add (get_or us a 0) o) (bits.add (get_or us b 0) o) in
-            let f = mix_first p q (bits.add (get_or vs a 0) o) (bits.add (get_or vs b 0) o) (bits.add (get_or us a 0) o) (bits.add (get_or us b 0) o) in
-            let h = mix_second p q (bits.add (get_or vs a 0) o) (bits.add (get_or vs b 0) o) (bits.add (get_or us a 0) o) (bits.add (get_or us b 0) o) in
+            let e = mix_pair at_a at_b in
+            let f = mix_first at_a at_b in
+            let h = mix_second at_a at_b in
             λ i. st (put_wire n w (flip_by s o (e i)) room) (put_two here.next (f i) (h i) (fill fresh written)) (further here 2)
 
         pub and_both : and_on s own nx pv n a b w o (at_state g)

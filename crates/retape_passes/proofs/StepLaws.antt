@@ -1,5 +1,4 @@
 -- What the proofs of the passes' functions cite.
---     owned_yes, owned_no              what was asked of an owner
 --     fits_own, fits_next, fits_prev   room for an input's draws, by owner
 --     input_own, input_next, input_prev    an input of the site itself, of the next one, of the one before
 --     in_room, gate_room               what the whole pass has room for, each step has
@@ -16,7 +15,8 @@ use Rattle.theory_sharing.specs.Tapes.{tape_length}
 use Rattle.theory_sharing.proofs.SiteLaws.{alike_two}
 use Rattle.theory_calls.specs.File.{circuit}
 use Rattle.run_site.specs.Mirror.{put_at}
-use Rattle.run_messages.specs.Mirror.{deal_at}
+use Rattle.run_messages.specs.Mirror.{pair_of, as_two, deal_at, kept_of, next_of, prev_of}
+use Rattle.run_messages.specs.declared.Two.{Two}
 use Rattle.run_messages.specs.declared.Four.{Four}
 use Rattle.run_steps.specs.Mirror.{on_part}
 use Rattle.run_passes.proofs.PassLaws.{ands_room, owned_room}
@@ -25,15 +25,6 @@ use Rattle.retape_pairs.specs.Mirror.{Fits, St, st, places, further, put_two, an
 use Rattle.retape_pairs.proofs.PairLaws.{further_none, further_add}
 use Rattle.file_parts.specs.Loop.{up_to}
 use Rattle.retape_passes.specs.Mirror.{step_own, step_next, step_prev, InFits, Lengths, input_on, gates_on}
-
-module _ (r : ℕ) where
-  pub owned_yes : (a : Bool) → r ≡ cond a 1 0 → r ≡ 1 → a ≡ true
-  owned_yes true e q = refl
-  owned_yes false e q = absurd (omega arith)
-
-  pub owned_no : (a : Bool) → r ≡ cond a 1 0 → (r ≡ 1 → ⊥) → a ≡ false
-  owned_no true e q = absurd (q e)
-  owned_no false e q = refl
 
 module _ (own next prev : ℕ) (at : Places) where
   pub fits_own : (a b : Bool) → a ≡ true → InFits a b own next prev at → at.own + 2 ≤ own
@@ -53,25 +44,26 @@ module _ (own next prev : ℕ) (at : Places) where
   fits_prev false true e q h = absurd (true≢false q)
   fits_prev true b e q h = absurd (true≢false e)
 
-module _ (own next prev : List ℕ) (n k x y : ℕ) (room moved : List ℕ) (at : Places) (d : Four) (l : List ℕ) where
-  pub input_own : (a b : Bool) → a ≡ true → d ≡ deal_at bits own at.own x → l ≡ on_part (2 * n) (4 * n) (put_at k (d.d, d.a)) room
+module _ (own next prev : List ℕ) (n k x y : ℕ) (room moved : List ℕ) (at : Places) (d : Four) (p : Two) (m : ℕ) (l : List ℕ) (w : m ≡ n)
+    (put : l ≡ on_part (2 * m) (4 * m) (put_at k (pair_of p)) room) where
+  pub input_own : (a b : Bool) → a ≡ true → d ≡ deal_at bits own at.own x → p ≡ as_two (kept_of d)
       → st l moved (places (at.own + 2) at.next at.prev) ≡ input_on own next prev n k x y a b (st room moved at)
   unfolding input_on deal_at
-  input_own true b e h q = cc
+  input_own true b e h q = cc (w, put)
   input_own false b e h q = absurd (true≢false (sym e))
 
-  pub input_next : (a b : Bool) → a ≡ false → b ≡ true → d ≡ deal_at bits next at.next x → l ≡ on_part (2 * n) (4 * n) (put_at k (d.c, d.d)) room
-      → (m : List ℕ) → m ≡ put_two at.next (bits.add d.a (bits.add y x)) d.b moved
-      → st l m (places at.own (at.next + 2) at.prev) ≡ input_on own next prev n k x y a b (st room moved at)
+  pub input_next : (a b : Bool) → a ≡ false → b ≡ true → d ≡ deal_at bits next at.next x → p ≡ as_two (prev_of d)
+      → (z : List ℕ) → z ≡ put_two at.next (bits.add d.a (bits.add y x)) d.b moved
+      → st l z (places at.own (at.next + 2) at.prev) ≡ input_on own next prev n k x y a b (st room moved at)
   unfolding input_on deal_at
-  input_next false true e f h q m r = cc
-  input_next false false e f h q m r = absurd (true≢false (sym f))
-  input_next true b e f h q m r = absurd (true≢false e)
+  input_next false true e f h q z r = cc (w, put)
+  input_next false false e f h q z r = absurd (true≢false (sym f))
+  input_next true b e f h q z r = absurd (true≢false e)
 
-  pub input_prev : (a b : Bool) → a ≡ false → b ≡ false → d ≡ deal_at bits prev at.prev x → l ≡ on_part (2 * n) (4 * n) (put_at k (d.a, d.b)) room
+  pub input_prev : (a b : Bool) → a ≡ false → b ≡ false → d ≡ deal_at bits prev at.prev x → p ≡ as_two (next_of d)
       → st l moved (places at.own at.next (at.prev + 2)) ≡ input_on own next prev n k x y a b (st room moved at)
   unfolding input_on deal_at
-  input_prev false false e f h q = cc
+  input_prev false false e f h q = cc (w, put)
   input_prev false true e f h q = absurd (true≢false f)
   input_prev true b e f h q = absurd (true≢false e)
 

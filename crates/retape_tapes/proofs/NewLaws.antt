@@ -33,12 +33,15 @@ use Rattle.theory_calls.specs.Calls.{at_wire, work_room_of}
 use Rattle.theory_calls.specs.AtBits.{both_plain, work_room}
 use Rattle.theory_calls.proofs.Limits.{ands_most}
 use Rattle.theory_calls.proofs.RunCall.{bit_draws}
+use Rattle.check_tests.specs.declared.Site.{Site as Seated}
+use Rattle.check_tests.specs.Seat.{seat, number_of}
+use Rattle.check_tests.proofs.SeatLaws.{seat_is}
 use Rattle.file_header.specs.declared.Counts.{Counts}
 use Rattle.file_header.specs.Opened.{Opened}
 use Rattle.run_steps.specs.Mirror.{lent, on_part}
 use Rattle.run_laws.proofs.PartLaws.{lent_middle, on_middle}
 use Rattle.retape_passes.specs.Mirror.{around, Lengths, Walked}
-use Rattle.retape_tapes.specs.declared.Span.{Span}
+use Rattle.std.specs.declared.ops.Range.{Range}
 use Rattle.retape_tapes.specs.Mirror.{span_of, span_in}
 
 -- ---- only the next site's tape is anew
@@ -85,7 +88,7 @@ module _ (C : Circuit) (t : List ℕ) (h : length t ≡ tapes_sum C) where
   as_third : t ≡ (a ++ b) ++ (c ++ [])
   as_third = sym (join_cut C t) ∙ ap (λ z. (a ++ b) ++ z) (sym (append-nil c))
 
-  pub part_is : (s : Site) → lent (span_in C s).from (span_in C s).to t ≡ of (cut C t) s
+  pub part_is : (s : Site) → lent (span_in C s).start (span_in C s).end t ≡ of (cut C t) s
   part_is s1 = let z = sizes in ap (lent 0 (tape_length C s1)) as_first ∙ lent_middle 0 (tape_length C s1) [] a (b ++ c) refl (z.0 ∙ (let e : tape_length C s1 ≡ tape_length C s1 - 0 = omega arith in e))
   part_is s2 =
       let z = sizes in
@@ -99,7 +102,7 @@ module _ (C : Circuit) (t : List ℕ) (h : length t ≡ tapes_sum C) where
 
   -- the slice with the tape of u anew
   pub put_is : (T : Draws) (u : Site) (m : List ℕ) → m ≡ tape C T u C.gates → ((v : Site) → is u v ≡ false → tape C T v C.gates ≡ of (cut C t) v)
-      → on_part (span_in C u).from (span_in C u).to (λ (l : List ℕ). m) t ≡ written C T
+      → on_part (span_in C u).start (span_in C u).end (λ (l : List ℕ). m) t ≡ written C T
   unfolding is
   put_is T s1 m e k =
       let z = sizes in
@@ -119,10 +122,10 @@ module _ (C : Circuit) (t : List ℕ) (h : length t ≡ tapes_sum C) where
       ∙ ap (λ w. (a ++ b) ++ w) (append-nil m) ∙ (λ i. (sym (k s1 refl) i ++ sym (k s2 refl) i) ++ e i)
 
 -- ---- inside the slice
-pub span_fits : (C : Circuit) (s : Site) (z : Span) → z ≡ span_in C s → (z.from ≤ z.to) × (z.to ≤ tapes_want C) × (z.to - z.from ≡ tape_length C s)
-span_fits C s z e = subst (λ (w : Span). (w.from ≤ w.to) × (w.to ≤ tapes_want C) × (w.to - w.from ≡ tape_length C s)) (sym e) (go s)
+pub span_fits : (C : Circuit) (s : Site) (z : Range ℕ) → z ≡ span_in C s → (z.start ≤ z.end) × (z.end ≤ tapes_want C) × (z.end - z.start ≡ tape_length C s)
+span_fits C s z e = subst (λ (w : Range ℕ). (w.start ≤ w.end) × (w.end ≤ tapes_want C) × (w.end - w.start ≡ tape_length C s)) (sym e) (go s)
   where
-    go : (s : Site) → ((span_in C s).from ≤ (span_in C s).to) × ((span_in C s).to ≤ tapes_want C) × ((span_in C s).to - (span_in C s).from ≡ tape_length C s)
+    go : (s : Site) → ((span_in C s).start ≤ (span_in C s).end) × ((span_in C s).end ≤ tapes_want C) × ((span_in C s).end - (span_in C s).start ≡ tape_length C s)
     go s1 = let n = tapes_length C in (omega arith, omega arith, omega arith)
     go s2 = let n = tapes_length C in (omega arith, omega arith, omega arith)
     go s3 = let n = tapes_length C in (omega arith, omega arith, omega arith)
@@ -137,7 +140,7 @@ module _ (s : Site) (C : Circuit) (xs ys t : List ℕ) (h : length t ≡ tapes_s
     drawn_is : draws C (around s own nx pv) ≡ read C t
     drawn_is = ap (draws C) ((λ i. around s (eo i) (en i) (ep i)) ∙ seen_whole (cut C t))
 
-    pub new_is : on_part (span_in C (next s)).from (span_in C (next s)).to (λ (l : List ℕ). moved) t ≡ new_tapes bits s C (at_wire xs) (at_wire ys) t
+    pub new_is : on_part (span_in C (next s)).start (span_in C (next s)).end (λ (l : List ℕ). moved) t ≡ new_tapes bits s C (at_wire xs) (at_wire ys) t
     unfolding new_tapes
     new_is =
         put_is C t h (retape bits s C (at_wire xs) (at_wire ys) (read C t)) (next s) moved
@@ -151,30 +154,30 @@ module _ (s : Site) (C : Circuit) (xs ys t : List ℕ) (h : length t ≡ tapes_s
         ∙ ap (λ (l : List ℕ). both_plain C xs ys ++ l) (sym (side_held s (parts bits C (at_wire xs) (read C t) C.gates)))
         ∙ ap (λ (l : List Wire). both_plain C xs ys ++ side (λ (w : Wire). of w s) l) (sym (held bit_group C (at_wire xs) (read C t) (bit_draws (read C t)) C.gates))
 
-pub room_is : (C : Circuit) (x t y : List ℕ) (site : ℕ) (room : List ℕ)
-    → room ≡ both_plain C x y ++ side (λ (w : Wire). of w (site_of site)) (after bits C (at_wire x) (read C t) no_errors C.gates) → room ≡ work_room C x t y site
+pub room_is : (C : Circuit) (x t y : List ℕ) (site : Seated) (room : List ℕ)
+    → room ≡ both_plain C x y ++ side (λ (w : Wire). of w (seat site)) (after bits C (at_wire x) (read C t) no_errors C.gates) → room ≡ work_room C x t y (number_of site)
 unfolding work_room_of
-room_is C x t y site room e = e
+room_is C x t y site room e = e ∙ ap (λ (s : Site). both_plain C x y ++ side (λ (w : Wire). of w s) (after bits C (at_wire x) (read C t) no_errors C.gates)) (seat_is site)
 
 -- ---- the pass, over parts of the slice that stand at these places
-module _ (f : List ℕ) (c : Counts) (op : Opened f c) (site : ℕ) (xs ys t fresh : List ℕ) (h : length t ≡ tapes_want (circuit f)) (e : fresh ≡ t) (o n p : Span)
-    (eo : o ≡ span_in (circuit f) (site_of site)) (en : n ≡ span_in (circuit f) (next (site_of site))) (ep : p ≡ span_in (circuit f) (prev (site_of site))) where
+module _ (f : List ℕ) (c : Counts) (op : Opened f c) (site : Seated) (xs ys t fresh : List ℕ) (h : length t ≡ tapes_want (circuit f)) (e : fresh ≡ t) (o n p : Range ℕ)
+    (eo : o ≡ span_in (circuit f) (seat site)) (en : n ≡ span_in (circuit f) (next (seat site))) (ep : p ≡ span_in (circuit f) (prev (seat site))) where
   abbrev C : Circuit
   C = circuit f
 
   abbrev s : Site
-  s = site_of site
+  s = seat site
 
-  abbrev at_span : Span → List ℕ → List ℕ
-  at_span z l = lent z.from z.to l
+  abbrev at_span : Range ℕ → List ℕ → List ℕ
+  at_span z l = lent z.start z.end l
 
   long : length t ≡ tapes_sum C
   long = h ∙ sym (tapes_length C)
 
-  at_place : (v : Site) (z : Span) → z ≡ span_in C v → at_span z t ≡ of (cut C t) v
-  at_place v z q = ap (λ (w : Span). at_span w t) q ∙ part_is C t long v
+  at_place : (v : Site) (z : Range ℕ) → z ≡ span_in C v → at_span z t ≡ of (cut C t) v
+  at_place v z q = ap (λ (w : Range ℕ). at_span w t) q ∙ part_is C t long v
 
-  part_long : (v : Site) (z : Span) → z ≡ span_in C v → length (at_span z t) ≡ tape_length C v
+  part_long : (v : Site) (z : Range ℕ) → z ≡ span_in C v → length (at_span z t) ≡ tape_length C v
   part_long v z q = ap length (at_place v z q) ∙ (cut_sized C t long).sized v
 
   few : (v : Site) → tape_length C v ≤ 65536
@@ -203,23 +206,24 @@ module _ (f : List ℕ) (c : Counts) (op : Opened f c) (site : ℕ) (xs ys t fre
       }
 
   module _ (room moved : List ℕ) (w : Walked s C xs ys (at_span o t) (at_span n t) (at_span p t) room moved) where
-    pub new_back : take n.from fresh ++ (moved ++ drop (n.to - n.from) (drop n.from fresh)) ≡ new_tapes bits s C (at_wire xs) (at_wire ys) t
+    pub new_back : take n.start fresh ++ (moved ++ drop (n.end - n.start) (drop n.start fresh)) ≡ new_tapes bits (site_of (number_of site)) C (at_wire xs) (at_wire ys) t
     unfolding on_part
     new_back =
-        (λ i. take (en i).from (e i) ++ (moved ++ drop ((en i).to - (en i).from) (drop (en i).from (e i))))
+        (λ i. take (en i).start (e i) ++ (moved ++ drop ((en i).end - (en i).start) (drop (en i).start (e i))))
         ∙ new_is s C xs ys t long _ _ _ room moved (at_place s o eo) (at_place (next s) n en) (at_place (prev s) p ep) w
+        ∙ ap (λ (v : Site). new_tapes bits v C (at_wire xs) (at_wire ys) t) (seat_is site)
 
-    pub room_back : room ≡ work_room C xs t ys site
+    pub room_back : room ≡ work_room C xs t ys (number_of site)
     room_back = room_is C xs t ys site room (pairs_in s C xs ys t long _ _ _ room moved (at_place s o eo) (at_place (next s) n en) (at_place (prev s) p ep) w)
 
 -- ---- where the code finds the tapes
 pub two_on : (s u w : Site) → u ≡ next s → w ≡ next u → w ≡ prev s
 two_on s u w e q = q ∙ ap next e ∙ by_site (λ s. next (next s) ≡ prev s) refl refl refl s
 
-pub stands_at : (f : List ℕ) (c : Counts) (a one two all : ℕ) (v u : Site) (z : Span) → Opened f c → a ≡ ands (circuit f).gate c.gates
-    → one ≡ owned (circuit f).owner (site_of 1) c.inputs → two ≡ owned (circuit f).owner (site_of 2) c.inputs → all ≡ tapes_want (circuit f)
+pub stands_at : (f : List ℕ) (c : Counts) (a one two all : ℕ) (v u : Site) (z : Range ℕ) → Opened f c → a ≡ ands (circuit f).gate c.gates
+    → one ≡ owned (circuit f).owner s1 c.inputs → two ≡ owned (circuit f).owner s2 c.inputs → all ≡ tapes_want (circuit f)
     → z ≡ span_of v (2 * (one + a)) (2 * (two + a)) all → v ≡ u → z ≡ span_in (circuit f) u
-unfolding tape_length site_of
+unfolding tape_length
 stands_at f c a one two all v u z o ea e1 e2 h q e =
     let A : a ≡ all_ands (circuit f) = ea ∙ ap (ands (circuit f).gate) o.gates_are in
     let P : one ≡ all_owned (circuit f) s1 = e1 ∙ ap (owned (circuit f).owner s1) o.ins_are in

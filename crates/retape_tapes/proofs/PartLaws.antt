@@ -15,10 +15,7 @@ use Rattle.file_header.specs.declared.Counts.{Counts}
 use Rattle.file_header.specs.Opened.{Opened}
 
 module _ (f : List ℕ) (c : Counts) (op : Opened f c) (xs ys room v1 v2 : List ℕ) (h : length room ≡ 4 * (c.inputs + c.gates))
-    (e1 : v1 ≡ plain (circuit f) xs) (e2 : v2 ≡ plain (circuit f) ys) where
-  abbrev n : ℕ
-  n = c.inputs + c.gates
-
+    (e1 : v1 ≡ plain (circuit f) xs) (e2 : v2 ≡ plain (circuit f) ys) (n : ℕ) (en : n ≡ c.inputs + c.gates) where
   abbrev r : List ℕ
   r = take 0 room ++ (v1 ++ drop (n - 0) (drop 0 room))
 

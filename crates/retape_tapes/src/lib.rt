@@ -3,130 +3,105 @@
 
 ghost use Rattle.std.specs.Prelude.{◌≡◌, ◌+◌, ◌*◌, ◌≤◌, length, take};
 ghost use Rattle.theory_sharing.specs.Sites.{next, prev};
-ghost use Rattle.theory_sharing.specs.Circuit.{ands};
 ghost use Rattle.theory_sharing.specs.Store.{fill};
-ghost use Rattle.theory_calls.specs.File.{circuit, site_of};
+ghost use Rattle.theory_calls.specs.File.{circuit};
 ghost use Rattle.theory_calls.specs.Checks.{tapes_want};
 ghost use Rattle.theory_calls.specs.Statements.{Bits};
 ghost use Rattle.theory_calls.specs.AtBits.{both_plain, room_on, tapes_on};
-ghost use Rattle.file_parts.specs.Checked.{Checked};
+ghost use Rattle.check_tests.specs.Seat.{seat, number_of};
 ghost use Rattle.retape_tapes.specs.Mirror.{span_of, span_in};
 
-use file_header::Counts;
+use check_tests::Site;
+use file_counts::Counted;
+use file_reader::Circuit;
+use retape_pairs::Tapes;
+use std::ops::Range;
 
-// A part of a slice.
-#[derive(Clone, Copy)]
-pub struct Span {
-    pub from: usize,
-    pub to: usize,
-}
-
-// "after 3 comes 1"
-fn next_site(site: usize) -> usize
-    ensures { site_of result ≡ next (site_of site) }
+// "after 3 comes 1". Here, since nobody else asks for it.
+fn next_site(site: Site) -> Site
+    ensures { seat result ≡ next (seat site) }
 {
-    if site == 1 {
-        return 2;
+    match site {
+        Site::One => Site::Two,
+        Site::Two => Site::Three,
+        Site::Three => Site::One,
     }
-    if site == 2 {
-        return 3;
-    }
-    1
 }
 
 // Where a site's tape stands: site 1's of a bits first, then site 2's of b, then site 3's up to the end.
-fn tape_of(site: usize, a: usize, b: usize, all: usize) -> Span
+fn tape_of(site: Site, a: usize, b: usize, all: usize) -> Range<usize>
     requires { (a ≤ 65536) × (b ≤ 65536) }
-    ensures { result ≡ span_of (site_of site) a b all }
+    ensures { result ≡ span_of (seat site) a b all }
 {
-    if site == 1 {
-        return Span { from: 0, to: a };
-    }
-    if site == 2 {
-        return Span { from: a, to: a + b };
-    }
-    Span {
-        from: a + b,
-        to: all,
+    match site {
+        Site::One => 0..a,
+        Site::Two => a..a + b,
+        Site::Three => a + b..all,
     }
 }
 
 // Plain values under both inputs, in the first 2W bytes of the work room.
-pub fn both_values(file: &[u8], c: Counts, inputs: &[u8], second: &[u8], room: &mut [u8])
-    requires checked { Checked file.now c × (length inputs.now ≡ c.inputs) × (length second.now ≡ c.inputs) }
-    requires room_len { length room.old ≡ 4 * (c.inputs + c.gates) }
-    ensures { room.new ≡ fill room.old (both_plain (circuit file.now) inputs.now second.now) }
+pub fn both_values(c: &Circuit<'_>, inputs: &[u8], second: &[u8], room: &mut [u8])
+    requires inputs_len { (length inputs.now ≡ c.now.counts.inputs) × (length second.now ≡ c.now.counts.inputs) }
+    requires room_len { length room.old ≡ 4 * (c.now.counts.inputs + c.now.counts.gates) }
+    ensures { room.new ≡ fill room.old (both_plain (circuit c.now.file.now) inputs.now second.now) }
 {
-    let n = c.inputs + c.gates;
-    plain::values_pass(file, c, inputs, &mut room[0..n]);
-    plain::values_pass(file, c, second, &mut room[n..2 * n]);
+    let n = c.wires();
+    plain::values_pass(c, inputs, &mut room[0..n]);
+    plain::values_pass(c, second, &mut room[n..2 * n]);
 }
 
 // The pass of a site over tapes that stand at o, n and p: its own, the next one's, the one's before. The new tapes are a copy as yet.
 fn pass_on(
-    file: &[u8],
-    c: Counts,
-    site: usize,
-    after: usize,
+    c: &Circuit<'_>,
+    site: Site,
+    after: Site,
     inputs: &[u8],
     second: &[u8],
     tapes: &[u8],
     fresh: &mut [u8],
     room: &mut [u8],
-    o: Span,
-    n: Span,
-    p: Span,
+    o: Range<usize>,
+    n: Range<usize>,
+    p: Range<usize>,
 )
-    requires checked { Checked file.now c × Bits inputs.now c.inputs × Bits second.now c.inputs }
-    requires room_len { (length room.old ≡ 4 * (c.inputs + c.gates)) × (site_of after ≡ next (site_of site)) }
-    requires tapes_len { (length tapes.now ≡ tapes_want (circuit file.now)) × (fresh.old ≡ tapes.now) }
-    requires o_value { (o ≡ span_in (circuit file.now) (site_of site)) × (n ≡ span_in (circuit file.now) (next (site_of site))) × (p ≡ span_in (circuit file.now) (prev (site_of site))) }
-    requires room_value { take (2 * (c.inputs + c.gates)) room.old ≡ both_plain (circuit file.now) inputs.now second.now }
-    ensures fresh_after { fresh.new ≡ tapes_on file.now inputs.now tapes.now second.now site }
-    ensures room_after { room.new ≡ room_on file.now inputs.now tapes.now second.now site }
+    requires inputs_bits { Bits inputs.now c.now.counts.inputs × Bits second.now c.now.counts.inputs }
+    requires after_site { seat after ≡ next (seat site) }
+    requires room_len { length room.old ≡ 4 * (c.now.counts.inputs + c.now.counts.gates) }
+    requires tapes_len { (length tapes.now ≡ tapes_want (circuit c.now.file.now)) × (fresh.old ≡ tapes.now) }
+    requires spans { (o ≡ span_in (circuit c.now.file.now) (seat site)) × (n ≡ span_in (circuit c.now.file.now) (next (seat site))) × (p ≡ span_in (circuit c.now.file.now) (prev (seat site))) }
+    requires room_value { take (2 * (c.now.counts.inputs + c.now.counts.gates)) room.old ≡ both_plain (circuit c.now.file.now) inputs.now second.now }
+    ensures fresh_after { fresh.new ≡ tapes_on c.now.file.now inputs.now tapes.now second.now (number_of site) }
+    ensures room_after { room.new ≡ room_on c.now.file.now inputs.now tapes.now second.now (number_of site) }
 {
-    let of = o.from;
-    let ot = o.to;
-    let nf = n.from;
-    let nt = n.to;
-    let pf = p.from;
-    let pt = p.to;
-    retape_passes::pass(
-        file,
-        c,
-        site,
-        after,
-        inputs,
-        second,
-        &tapes[of..ot],
-        &tapes[nf..nt],
-        &tapes[pf..pt],
-        room,
-        &mut fresh[nf..nt],
-    );
+    let parts = Tapes {
+        own: &tapes[o.start..o.end],
+        next: &tapes[n.start..n.end],
+        prev: &tapes[p.start..p.end],
+    };
+    let moved = &mut fresh[n.start..n.end];
+    retape_passes::pass(c, site, after, inputs, second, &parts, room, moved);
 }
 
-// The new tapes, and the site's pairs in the work room behind both sets of plain values; a AND and OR gates.
+// The new tapes, and the site's pairs in the work room behind both sets of plain values.
 pub fn renew(
-    file: &[u8],
-    c: Counts,
-    a: usize,
-    site: usize,
+    c: &Counted<'_>,
+    site: Site,
     inputs: &[u8],
     second: &[u8],
     tapes: &[u8],
     fresh: &mut [u8],
     room: &mut [u8],
 )
-    requires checked { Checked file.now c × Bits inputs.now c.inputs × Bits second.now c.inputs }
-    requires a_value { (a ≡ ands (circuit file.now).gate c.gates) × (a ≤ c.gates) }
-    requires tapes_len { (length tapes.now ≡ tapes_want (circuit file.now)) × (length fresh.old ≡ tapes_want (circuit file.now)) × (length room.old ≡ 4 * (c.inputs + c.gates)) }
-    requires room_value { take (2 * (c.inputs + c.gates)) room.old ≡ both_plain (circuit file.now) inputs.now second.now }
-    ensures fresh_after { fresh.new ≡ tapes_on file.now inputs.now tapes.now second.now site }
-    ensures room_after { room.new ≡ room_on file.now inputs.now tapes.now second.now site }
+    requires inputs_bits { Bits inputs.now c.now.circuit.counts.inputs × Bits second.now c.now.circuit.counts.inputs }
+    requires tapes_len { (length tapes.now ≡ tapes_want (circuit c.now.circuit.file.now)) × (length fresh.old ≡ tapes_want (circuit c.now.circuit.file.now)) }
+    requires room_len { length room.old ≡ 4 * (c.now.circuit.counts.inputs + c.now.circuit.counts.gates) }
+    requires room_value { take (2 * (c.now.circuit.counts.inputs + c.now.circuit.counts.gates)) room.old ≡ both_plain (circuit c.now.circuit.file.now) inputs.now second.now }
+    ensures fresh_after { fresh.new ≡ tapes_on c.now.circuit.file.now inputs.now tapes.now second.now (number_of site) }
+    ensures room_after { room.new ≡ room_on c.now.circuit.file.now inputs.now tapes.now second.now (number_of site) }
 {
-    let one = 2 * (file_counts::count_owned(file, c, 1) + a);
-    let two = 2 * (file_counts::count_owned(file, c, 2) + a);
+    let one = 2 * (file_counts::count_owned(&c.circuit, Site::One) + c.ands);
+    let two = 2 * (file_counts::count_owned(&c.circuit, Site::Two) + c.ands);
     let all = tapes.len();
     let after = next_site(site);
     let before = next_site(after);
@@ -135,6 +110,6 @@ pub fn renew(
     let p = tape_of(before, one, two, all);
     file_numbers::copy(tapes, fresh);
     pass_on(
-        file, c, site, after, inputs, second, tapes, fresh, room, o, n, p,
+        &c.circuit, site, after, inputs, second, tapes, fresh, room, o, n, p,
     );
 }

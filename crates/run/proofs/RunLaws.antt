@@ -12,7 +12,7 @@ use Rattle.theory_sharing.specs.Circuit.{Circuit, wires, ands, all_ands, owned, 
 use Rattle.theory_sharing.specs.Tapes.{tape_length}
 use Rattle.theory_calls.specs.File.{inputs_of, gates_of, circuit}
 use Rattle.file_header.specs.declared.Counts.{Counts}
-use Rattle.run_passes.specs.declared.Pos.{Pos}
+use Rattle.run_steps.specs.declared.Pos.{Pos}
 use Rattle.run_passes.specs.Mirror.{St, st, Room, InRoom, inputs_on, gates_on}
 use Rattle.run_passes.proofs.PassLaws.{lower_of, in_moved, inputs_pos}
 use Rattle.run_laws.specs.Loops.{place}
@@ -31,7 +31,7 @@ use Rattle.check_given.proofs.GivenLaws.{counts_are}
 use Rattle.run.specs.Mirror.{Ready}
 
 -- ---- what the passes have room for, at the counts that stand in the file
-module _ (f : List ℕ) (x t l o r s : ℕ) (d : Ready f (counts_of f) x t l o r s) where
+module _ (f : List ℕ) (x t l r s : ℕ) (d : Ready f (counts_of f) x t l r s) where
   abbrev C : Circuit
   C = circuit f
 
@@ -76,11 +76,11 @@ Shared f xs tapes line tr s' t' at =
     × (t' ≡ fill tr (gates_delivered bits C (at_wire xs) (read C tapes) (errors C line) C.gates))
 
 -- at the counts that stand in the file
-shared_at : (f xs tapes line old tr : List ℕ) (o : ℕ) → Ready f (counts_of f) (length xs) (length tapes) (length line) o (length tr) (length old) → (pos : Pos) → pos ≡ in_place (circuit f) 0
+shared_at : (f xs tapes line old tr : List ℕ) → Ready f (counts_of f) (length xs) (length tapes) (length line) (length tr) (length old) → (pos : Pos) → pos ≡ in_place (circuit f) 0
     → (y : St) → y ≡ inputs_on f xs tapes line (wires (circuit f)) (st old tr pos) (inputs_of f) → (z : St) → z ≡ gates_on f tapes line (inputs_of f) (wires (circuit f)) y (gates_of f)
     → Shared f xs tapes line tr z.store z.tr z.pos.at
 unfolding place
-shared_at f xs tapes line old tr o d pos e y ey z ez =
+shared_at f xs tapes line old tr d pos e y ey z ez =
     let C : Circuit = circuit f in
     let a = d.lr in
     let w = ez ∙ ap (λ (v : St). gates_on f tapes line (inputs_of f) (wires C) v (gates_of f)) (ey ∙ ap (λ (q : Pos). inputs_on f xs tapes line (wires C) (st old tr q) (inputs_of f)) e)
@@ -89,32 +89,32 @@ shared_at f xs tapes line old tr o d pos e y ey z ez =
 
 -- and so at the counts that the code holds
 module _ (f : List ℕ) (c : Counts) where
-  pub inputs_ready : (x t l o r s : ℕ) (pos : Pos) → Ready f c x t l o r s → pos ≡ in_place (circuit f) 0 → InRoom (circuit f).owner c.inputs t l r pos
-  inputs_ready x t l o r s pos d =
-      subst (λ (n : Counts). Ready f n x t l o r s → pos ≡ in_place (circuit f) 0 → InRoom (circuit f).owner n.inputs t l r pos)
-      (sym (counts_are f c d.checked.opened)) (λ k e. in_room f x t l o r s k pos e) d
+  pub inputs_ready : (x t l r s : ℕ) (pos : Pos) → Ready f c x t l r s → pos ≡ in_place (circuit f) 0 → InRoom (circuit f).owner c.inputs t l r pos
+  inputs_ready x t l r s pos d =
+      subst (λ (n : Counts). Ready f n x t l r s → pos ≡ in_place (circuit f) 0 → InRoom (circuit f).owner n.inputs t l r pos)
+      (sym (counts_are f c d.checked.opened)) (λ k e. in_room f x t l r s k pos e) d
 
-  pub gates_ready : (xs tapes line old tr : List ℕ) (o k : ℕ) (pos : Pos) (y : St) → Ready f c (length xs) (length tapes) (length line) o (length tr) (length old)
+  pub gates_ready : (xs tapes line old tr : List ℕ) (k : ℕ) (pos : Pos) (y : St) → Ready f c (length xs) (length tapes) (length line) (length tr) (length old)
       → pos ≡ in_place (circuit f) 0 → k ≡ length tr → y ≡ inputs_on f xs tapes line (c.inputs + c.gates) (st old tr pos) c.inputs
       → Room (ands (circuit f).gate c.gates) (length tapes) (length line) k y.pos
-  gates_ready xs tapes line old tr o k pos y d e h =
-      subst (λ (n : Counts). Ready f n (length xs) (length tapes) (length line) o (length tr) (length old) → y ≡ inputs_on f xs tapes line (n.inputs + n.gates) (st old tr pos) n.inputs
+  gates_ready xs tapes line old tr k pos y d e h =
+      subst (λ (n : Counts). Ready f n (length xs) (length tapes) (length line) (length tr) (length old) → y ≡ inputs_on f xs tapes line (n.inputs + n.gates) (st old tr pos) n.inputs
       → Room (ands (circuit f).gate n.gates) (length tapes) (length line) k y.pos)
       (sym (counts_are f c d.checked.opened))
-      (λ j q. subst (λ (m : ℕ). Room (all_ands (circuit f)) (length tapes) (length line) m y.pos) (sym h) (gates_room f _ _ _ _ _ _ j pos e xs tapes line old tr y q)) d
+      (λ j q. subst (λ (m : ℕ). Room (all_ands (circuit f)) (length tapes) (length line) m y.pos) (sym h) (gates_room f _ _ _ _ _ j pos e xs tapes line old tr y q)) d
 
-  pub shared : (xs tapes line old tr : List ℕ) (o : ℕ) (pos : Pos) (y z : St) → Ready f c (length xs) (length tapes) (length line) o (length tr) (length old)
+  pub shared : (xs tapes line old tr : List ℕ) (pos : Pos) (y z : St) → Ready f c (length xs) (length tapes) (length line) (length tr) (length old)
       → pos ≡ in_place (circuit f) 0 → y ≡ inputs_on f xs tapes line (c.inputs + c.gates) (st old tr pos) c.inputs
       → z ≡ gates_on f tapes line c.inputs (c.inputs + c.gates) y c.gates → Shared f xs tapes line tr z.store z.tr z.pos.at
-  shared xs tapes line old tr o pos y z d e =
-      subst (λ (n : Counts). Ready f n (length xs) (length tapes) (length line) o (length tr) (length old) → y ≡ inputs_on f xs tapes line (n.inputs + n.gates) (st old tr pos) n.inputs
+  shared xs tapes line old tr pos y z d e =
+      subst (λ (n : Counts). Ready f n (length xs) (length tapes) (length line) (length tr) (length old) → y ≡ inputs_on f xs tapes line (n.inputs + n.gates) (st old tr pos) n.inputs
       → z ≡ gates_on f tapes line n.inputs (n.inputs + n.gates) y n.gates → Shared f xs tapes line tr z.store z.tr z.pos.at)
-      (sym (counts_are f c d.checked.opened)) (λ j q p. shared_at f xs tapes line old tr o j pos e y q z p) d
+      (sym (counts_are f c d.checked.opened)) (λ j q p. shared_at f xs tapes line old tr j pos e y q z p) d
 
   -- where the openings begin there is room for them
-  pub at_room : (x t l o r s at k : ℕ) → Ready f c x t l o r s → at ≡ 4 * (circuit f).ins + 12 * all_ands (circuit f) → k ≡ r
+  pub at_room : (x t l r s at k : ℕ) → Ready f c x t l r s → at ≡ 4 * (circuit f).ins + 12 * all_ands (circuit f) → k ≡ r
       → (at + 6 * c.outputs ≤ l) × (at + 6 * c.outputs ≤ k) × (at ≤ 65536)
-  at_room x t l o r s at k d e h =
+  at_room x t l r s at k d e h =
       let a = d.checked.opened.outs_are in let b = d.ll in let g = d.lr in
       let u = d.checked.opened.few_inputs in let v = d.checked.opened.few_gates in let i = d.checked.opened.ins_are in let j = d.checked.opened.gates_are in
       let m = ands_most (circuit f).gate (circuit f).gates in

@@ -8,18 +8,16 @@ ghost use Rattle.run_messages.specs.Mirror.{objects_of, opened_of};
 
 use run_messages::{Held, Three};
 
-// A site's weight where its two copies are unlike.
-#[tactic(auto, using(crate::proofs::CopyLaws::copies_alike, crate::proofs::CopyLaws::copies_differ))]
+// A site's weight where its two copies are unlike. The sites are told as a sum of 1, 2 and 4, as document 01 has it and as callers in C read it.
 pub fn unlike(x: u8, y: u8, weight: usize) -> usize
-    ensures { (result ≡ unlike (x, y) weight) × (result ≤ weight) }
+    ensures value { result ≡ unlike (x, y) weight }
+    ensures bound { result ≤ weight }
 {
-    if x == y {
-        return 0;
-    }
-    weight
+    if x == y { 0 } else { weight }
 }
 
 // The sites whose two copies are unlike, as a sum of 1, 2 and 4.
+#[tactic(auto, unfolding(run_messages::specs::Mirror::objects_of))]
 pub fn objecting(g: Held) -> usize
     ensures { result ≡ objects_of g }
 {
@@ -30,6 +28,7 @@ pub fn objecting(g: Held) -> usize
 }
 
 // What the three sites open, each with its pair and the copy it got first.
+#[tactic(auto, unfolding(run_messages::specs::Mirror::opened_of))]
 pub fn opened(h: Held, c1: u8, c2: u8, c3: u8) -> Three
     ensures { result ≡ opened_of bits h c1 c2 c3 }
 {

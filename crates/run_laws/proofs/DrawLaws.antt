@@ -21,7 +21,7 @@ use Rattle.theory_sharing.proofs.SiteLaws.{is_itself}
 use Rattle.theory_calls.specs.File.{site_of}
 use Rattle.file_parts.proofs.SiteLaws.{by_number}
 use Rattle.run_messages.specs.Mirror.{deal_at}
-use Rattle.run_passes.specs.declared.Pos.{Pos}
+use Rattle.run_steps.specs.declared.Pos.{Pos}
 use Rattle.run_passes.specs.Mirror.{next_pos, own_place}
 use Rattle.run_passes.proofs.PassLaws.{owned_room, ands_room, placed_eq, one_more}
 use Rattle.run_laws.specs.Link.{sent_of}

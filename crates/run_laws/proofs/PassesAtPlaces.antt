@@ -21,7 +21,7 @@ use Rattle.file_parts.specs.Loop.{up_to}
 use Rattle.run_messages.specs.Mirror.{line_at, on_line, in_pairs}
 use Rattle.run_messages.specs.declared.Four.{Four}
 use Rattle.run_steps.specs.Mirror.{put_four, put_held}
-use Rattle.run_passes.specs.declared.Pos.{Pos}
+use Rattle.run_steps.specs.declared.Pos.{Pos}
 use Rattle.run_passes.specs.Mirror.{St, st, and_on, gate_on, in_pos, input_on}
 use Rattle.run_passes.proofs.PassLaws.{placed_eq, one_more, in_pos_is}
 use Rattle.run_laws.specs.Loops.{place, in_places, in_place}

@@ -6,7 +6,7 @@ use Rattle.std.specs.Prelude.{ℕ, ◌+◌, ◌*◌}
 use Rattle.theory_sharing.specs.Sites.{Site, s1, s2, s3}
 use Rattle.theory_sharing.specs.Circuit.{Circuit, owned, all_owned}
 use Rattle.theory_sharing.specs.Tapes.{tape_length}
-use Rattle.run_passes.specs.declared.Pos.{Pos}
+use Rattle.run_steps.specs.declared.Pos.{Pos}
 use Rattle.run_passes.specs.Mirror.{placed}
 
 -- 01: "Tapes stand in one slice, site 1's first"

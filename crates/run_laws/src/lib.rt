@@ -1,3 +1,3 @@
 #![tactic(auto)]
 
-// Definitions and laws only: what the functions of crate steps compute are the steps of document 01. Nothing here runs.
+// Definitions and laws only: what the functions of run_steps and run_passes compute are the steps of document 01. Nothing here runs.

@@ -1,5 +1,6 @@
 -- What the functions on the bits of a step compute, by value. Written with sharing's own functions of pairs. No public contract cites these: laws tie them
 -- to sharing's steps.
+--     pair_of, as_two, two_sum       a pair of the code's as the document's, and back; two of them added
 --     kept_of, next_of, prev_of      of a deal's four bits: what the dealer keeps, what the next site gets, and the one before
 --     deal_at                        a value shared from the tapes, as sent
 --     line_at, on_line               what the line adds
@@ -7,7 +8,7 @@
 --     on_line_six, objects_of, opened_of    an opening
 use Rattle.std.specs.Prelude.{cond, List, ℕ, ◌+◌, get_or, eqb}
 use Rattle.theory_sharing.specs.Ops.{Ops}
-use Rattle.theory_sharing.specs.Steps.{Pair, unlike}
+use Rattle.theory_sharing.specs.Steps.{Pair, add_pair, unlike}
 use Rattle.run_messages.specs.declared.Two.{Two}
 use Rattle.run_messages.specs.declared.Held.{Held}
 use Rattle.run_messages.specs.declared.Four.{Four}
@@ -32,6 +33,9 @@ three a b c = record { a = a; b = b; c = c }
 abbrev pub pair_of : Two → Pair
 pair_of t = (t.x, t.y)
 
+abbrev pub as_two : Pair → Two
+as_two v = two v.0 v.1
+
 -- of a deal's four bits: "as held", "first to s+1, then to s+2"
 abbrev pub kept_of : Four → Pair
 kept_of m = (m.d, m.a)
@@ -48,6 +52,9 @@ line_at l at k = get_or l (at + k) 0
 
 module _ (R : Ops) where
   open R use {add, sub}
+
+  abbrev pub two_sum : Two → Two → Two
+  two_sum p q = as_two (add_pair R (pair_of p) (pair_of q))
 
   -- a value shared from the two bits at a place of the tapes, as sent
   unfoldable pub deal_at : List ℕ → ℕ → ℕ → Four

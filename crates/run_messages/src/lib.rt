@@ -5,11 +5,29 @@ ghost use Rattle.std.specs.Prelude.{◌≡◌, ◌+◌, ◌≤◌, length};
 ghost use Rattle.theory_sharing.specs.Ops.{bits};
 ghost use Rattle.run_messages.specs.Mirror.{deal_at, line_at, on_line, in_pairs, on_line_six};
 
+use std::ops::BitXor;
+
 // A site's pair of a wire.
 #[derive(Clone, Copy)]
 pub struct Two {
     pub x: u8,
     pub y: u8,
+}
+
+// Pairs are added part by part.
+impl BitXor for Two {
+    type Output = Two;
+
+    ghost use Rattle.run_messages.specs.Mirror.{two_sum};
+
+    ghost bitxor_gives = { λ p q r. r ≡ two_sum bits p q };
+
+    fn bitxor(self, other: Two) -> Two {
+        Two {
+            x: self.x ^ other.x,
+            y: self.y ^ other.y,
+        }
+    }
 }
 
 // The three sites' pairs of a wire. At an opening they are the six bits sent, in their order: 1 to 2, 1 to 3, 2 to 3, 2 to 1, 3 to 1, 3 to 2.
@@ -29,6 +47,38 @@ pub struct Four {
     pub d: u8,
 }
 
+impl Four {
+    ghost use Rattle.run_messages.specs.Mirror.{kept_of, next_of, prev_of, as_two};
+
+    // Of what was dealt: what the dealer keeps, what the next site and the one after it get.
+    pub fn kept(self) -> Two
+        ensures { result ≡ as_two (kept_of self) }
+    {
+        Two {
+            x: self.d,
+            y: self.a,
+        }
+    }
+
+    pub fn next(self) -> Two
+        ensures { result ≡ as_two (next_of self) }
+    {
+        Two {
+            x: self.a,
+            y: self.b,
+        }
+    }
+
+    pub fn prev(self) -> Two
+        ensures { result ≡ as_two (prev_of self) }
+    {
+        Two {
+            x: self.c,
+            y: self.d,
+        }
+    }
+}
+
 // The twelve bits of an AND or OR, by sender.
 #[derive(Clone, Copy)]
 pub struct Twelve {
@@ -46,6 +96,7 @@ pub struct Three {
 }
 
 // A sharing of v from the two tape bits at t, as sent.
+#[tactic(auto, unfolding(crate::specs::Mirror::deal_at))]
 pub fn deal(tapes: &[u8], t: usize, v: u8) -> Four
     requires { t + 2 ≤ length tapes.now }
     ensures { result ≡ deal_at bits tapes.now t v }
@@ -60,7 +111,9 @@ pub fn deal(tapes: &[u8], t: usize, v: u8) -> Four
     }
 }
 
-// The line, xored onto four bits from its place at.
+// The line, xored onto four bits from its place at. Apart from on_line6: one function over an array of bits would have neither a deal's names nor
+// an opening's three pairs, and takes apart and puts together again at both callers.
+#[tactic(auto, unfolding(crate::specs::Mirror::on_line))]
 pub fn on_line4(m: Four, line: &[u8], at: usize) -> Four
     requires { at + 4 ≤ length line.now }
     ensures { result ≡ on_line bits (line_at line.now at) m }
@@ -73,35 +126,34 @@ pub fn on_line4(m: Four, line: &[u8], at: usize) -> Four
     }
 }
 
-// An input: what its owner keeps, what the next site and the one after it get.
+// An input: what its owner keeps, what the next site and the one after it get. The owner stays the byte that the file has, so that nothing is
+// made of it on the way.
+#[tactic(auto, unfolding(crate::specs::Mirror::in_pairs))]
 pub fn in_pairs(owner: u8, k: Four, g: Four) -> Held
     ensures { result ≡ in_pairs owner k g }
 {
-    let kept = Two { x: k.d, y: k.a };
-    let next = Two { x: g.a, y: g.b };
-    let prev = Two { x: g.c, y: g.d };
-    if owner == 1 {
-        return Held {
+    let (kept, next, prev) = (k.kept(), g.next(), g.prev());
+    match owner {
+        1 => Held {
             p1: kept,
             p2: next,
             p3: prev,
-        };
-    }
-    if owner == 2 {
-        return Held {
+        },
+        2 => Held {
             p1: prev,
             p2: kept,
             p3: next,
-        };
-    }
-    Held {
-        p1: next,
-        p2: prev,
-        p3: kept,
+        },
+        _ => Held {
+            p1: next,
+            p2: prev,
+            p3: kept,
+        },
     }
 }
 
 // The line, xored onto the six bits of an opening.
+#[tactic(auto, unfolding(crate::specs::Mirror::on_line_six))]
 pub fn on_line6(h: Held, line: &[u8], at: usize) -> Held
     requires { at + 6 ≤ length line.now }
     ensures { result ≡ on_line_six bits (line_at line.now at) h }

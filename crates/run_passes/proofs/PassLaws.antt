@@ -1,8 +1,7 @@
 -- What the proofs of the passes cite.
---     and_law                         AND and OR, with the places after them
---     lower_of                        a good gate reads lower wires
---     xor_kind, not_kind    the gate that a kind's number means;  and_or_kind, and_or_lower, and_or_deals: the others, AND and OR together
---     gate_lower                      the gate that was read reads lower wires
+--     lower_of, lower_up              a good gate reads lower wires
+--     add_kind, flip_kind, deal_kind  the step that a kind's number means
+--     step_done, step_room            a step does what its gate does, and has the room that it wants
 --     placed_eq, one_more, in_pos_is  equal places; the places after one input more of one site
 -- Assumes nothing.
 use mathlib.Core.Path.{◌≡◌, refl, sym, ap, ◌∙◌, subst}
@@ -14,30 +13,18 @@ use native.Mathlib.Nat.{add-zero, le_refl, le_trans, le-add_right, not-suc-le-ze
 use mathlib.Core.Logic.{⊎_elim}
 use lib.ListN.{length}
 use borrow.Author.Tests.{ne_eqb}
-use Rattle.theory_sharing.specs.Ops.{bits}
 use Rattle.theory_sharing.specs.Sites.{Site, s1, s2, s3, is}
 use Rattle.theory_sharing.specs.Circuit.{Gate, XOR, AND, OR, NOT, dealing, ands, owned}
 use Rattle.theory_calls.specs.File.{owner_at, gate_of, site_of, circuit}
 use Rattle.theory_calls.specs.Checks.{good_gate}
-use Rattle.file_header.specs.declared.Counts.{Counts}
-use Rattle.file_parts.specs.declared.Gate.{Gate as Read}
-use Rattle.file_parts.specs.declared.Gate.TheVariants.{Is as GateIs}
-use Rattle.file_parts.specs.Mirror.{gate_by}
-use Rattle.file_parts.proofs.ReaderLaws.{gate_some}
-use Rattle.file_parts.specs.Checked.{Checked}
 use Rattle.file_parts.proofs.SiteLaws.{by_number}
 use Rattle.file_parts.proofs.CheckedLaws.{operands_lower}
-use Rattle.run_steps.specs.Mirror.{or_bit, sends, delivers, takes, put_twelve}
+use Rattle.run_steps.specs.Mirror.{or_bit}
 use Rattle.file_parts.specs.Loop.{up_to}
-use Rattle.run_passes.specs.declared.Pos.{Pos}
-use Rattle.run_passes.specs.Mirror.{St, st, placed, next_pos, and_on, gate_on, Lower, Room, gates_on, own_place, in_pos, input_on, inputs_on, InRoom}
-
-pub and_law : (tapes line : List ℕ) (n a b w o : ℕ) (pos : Pos) (store tr d l : List ℕ) (p : Pos)
-    → l ≡ takes bits n w o (sends bits tapes n a b o pos.t1 pos.t2 pos.t3 store) (delivers bits tapes line n a b o pos.t1 pos.t2 pos.t3 pos.at store) store
-    → d ≡ put_twelve pos.at (delivers bits tapes line n a b o pos.t1 pos.t2 pos.t3 pos.at store) tr
-    → p ≡ next_pos pos → st l d p ≡ and_on tapes line n a b w o (st store tr pos)
-unfolding and_on
-and_law tapes line n a b w o pos store tr d l p h1 h2 h3 = λ i. st (h1 i) (h2 i) (h3 i)
+use Rattle.run_steps.specs.declared.Pos.{Pos}
+use Rattle.run_passes.specs.declared.Step.{Step}
+use Rattle.run_passes.specs.declared.Step.TheVariants.{Add, Flip, Deal}
+use Rattle.run_passes.specs.Mirror.{St, placed, Small, next_pos, and_on, gate_on, step_by, step_on, deals, Lower, Room, gates_on, own_place, in_pos, input_on, inputs_on, InRoom}
 
 -- whatever its kind, both its numbers are lower wires
 kind_lowers : (kind a b w : ℕ) → (a < w) × (b < w) → Lower (gate_of kind a b) w
@@ -51,33 +38,6 @@ kind_lowers (suc (suc (suc (suc n)))) a b w p = p
 pub lower_of : (kind a b w : ℕ) → good_gate kind a b w ≡ true → Lower (gate_of kind a b) w
 lower_of kind a b w e = kind_lowers kind a b w (operands_lower kind a b w e)
 
-module _ (kind a b : ℕ) where
-  pub xor_kind : kind ≡ 1 → gate_of kind a b ≡ XOR a b
-  unfolding gate_of
-  xor_kind e = ap (λ (k : ℕ). gate_of k a b) e
-
-  pub not_kind : kind ≡ 3 → gate_of kind a b ≡ NOT a
-  unfolding gate_of
-  not_kind e = ap (λ (k : ℕ). gate_of k a b) e
-
--- a kind that is neither XOR nor NOT is AND or OR, and or_bit tells which: so what holds of both holds of it
-pub and_or_kind : {A : Type 0} (of-gate : Gate → A) (of-bit : ℕ → A) (kind a b o : ℕ) → (kind ≡ 1 → ⊥) → (kind ≡ 3 → ⊥) → o ≡ or_bit kind
-    → of-gate (AND a b) ≡ of-bit 0 → of-gate (OR a b) ≡ of-bit 1 → of-gate (gate_of kind a b) ≡ of-bit o
-unfolding gate_of or_bit
-and_or_kind f g zero a b o p q e x y = y ∙ ap g (sym e)
-and_or_kind f g (suc zero) a b o p q e x y = absurd (p refl)
-and_or_kind f g (suc (suc zero)) a b o p q e x y = x ∙ ap g (sym e)
-and_or_kind f g (suc (suc (suc zero))) a b o p q e x y = absurd (q refl)
-and_or_kind f g (suc (suc (suc (suc n)))) a b o p q e x y = y ∙ ap g (sym (e ∙ rw (ne_eqb (suc (suc (suc (suc n)))) 2 (λ h. omega arith)) refl))
-
-pub and_or_lower : (kind a b w : ℕ) → (kind ≡ 1 → ⊥) → (kind ≡ 3 → ⊥) → Lower (gate_of kind a b) w → (a < w) × (b < w)
-unfolding gate_of
-and_or_lower zero a b w p q h = h
-and_or_lower (suc zero) a b w p q h = absurd (p refl)
-and_or_lower (suc (suc zero)) a b w p q h = h
-and_or_lower (suc (suc (suc zero))) a b w p q h = absurd (q refl)
-and_or_lower (suc (suc (suc (suc n)))) a b w p q h = h
-
 -- lower than a wire is lower than all
 pub lower_up : (k : Gate) (w n : ℕ) → Lower k w → w ≤ n → Lower k n
 lower_up (XOR a b) w n p h = let x = p.0 in let y = p.1 in (omega arith, omega arith)
@@ -85,22 +45,44 @@ lower_up (AND a b) w n p h = let x = p.0 in let y = p.1 in (omega arith, omega a
 lower_up (OR a b) w n p h = let x = p.0 in let y = p.1 in (omega arith, omega arith)
 lower_up (NOT a) w n p h = let x = p.0 in let y = p.1 in (omega arith, omega arith)
 
--- it deals once
-pub and_or_deals : (kind a b : ℕ) → (kind ≡ 1 → ⊥) → (kind ≡ 3 → ⊥) → dealing (gate_of kind a b) ≡ 1
+-- ---- a gate as a step: by its kind's number
+pub add_kind : (kind a b : ℕ) → kind ≡ 1 → step_by (gate_of kind a b) ≡ Add a b
+unfolding gate_of
+add_kind kind a b e = rw e
+
+pub flip_kind : (kind a b : ℕ) → kind ≡ 3 → step_by (gate_of kind a b) ≡ Flip a
+unfolding gate_of
+flip_kind kind a b e = rw e
+
+-- a kind that is neither is AND or OR, and or_bit tells which
+pub deal_kind : (kind a b : ℕ) → (kind ≡ 1 → ⊥) → (kind ≡ 3 → ⊥) → step_by (gate_of kind a b) ≡ Deal a b (or_bit kind)
+unfolding gate_of or_bit
+deal_kind zero a b p q = refl
+deal_kind (suc zero) a b p q = absurd (p refl)
+deal_kind (suc (suc zero)) a b p q = refl
+deal_kind (suc (suc (suc zero))) a b p q = absurd (q refl)
+deal_kind (suc (suc (suc (suc n)))) a b p q = rw (ne_eqb (suc (suc (suc (suc n)))) 2 (λ h. omega arith)) refl
+
+-- a step does what its gate does, and has the room that it wants
+step_is : (tapes line : List ℕ) (n w : ℕ) (g : Gate) (x : St) → step_on tapes line n w (step_by g) x ≡ gate_on tapes line n w g x
+unfolding gate_on
+step_is tapes line n w (XOR a b) x = refl
+step_is tapes line n w (AND a b) x = refl
+step_is tapes line n w (OR a b) x = refl
+step_is tapes line n w (NOT a) x = refl
+
+pub step_deals : (g : Gate) → dealing g ≡ deals (step_by g)
 unfolding dealing
-and_or_deals kind a b p q = and_or_kind dealing (λ (o : ℕ). 1) kind a b (or_bit kind) p q refl refl refl
+step_deals (XOR a b) = refl
+step_deals (AND a b) = refl
+step_deals (OR a b) = refl
+step_deals (NOT a) = refl
 
--- the gate that was read is good
-pub gate_lower : (s : List ℕ) (c : Counts) (k kind a b : ℕ) (r : Read) → Checked s c → r ≡ gate_by s c k → r ≡ GateIs kind a b → k < c.gates
-    → Lower (gate_of kind a b) (c.inputs + k)
-gate_lower s c k kind a b r o e q h =
-    let v = gate_some s c k kind a b r e q h in
-    lower_of kind a b (c.inputs + k) ((λ i. good_gate (v.0 i) (v.1 i) (v.2 i) (c.inputs + k)) ∙ o.gates k h)
+pub step_done : (tapes line : List ℕ) (n w : ℕ) (x y : St) (s : Step) (g : Gate) → s ≡ step_by g → y ≡ step_on tapes line n w s x → y ≡ gate_on tapes line n w g x
+step_done tapes line n w x y s g e q = q ∙ ap (λ (z : Step). step_on tapes line n w z x) e ∙ step_is tapes line n w g x
 
--- and so wires of the file
-pub gate_below : (s : List ℕ) (c : Counts) (k kind a b : ℕ) (r : Read) → Checked s c → r ≡ gate_by s c k → r ≡ GateIs kind a b → k < c.gates
-    → Lower (gate_of kind a b) (c.inputs + c.gates)
-gate_below s c k kind a b r o e q h = lower_up (gate_of kind a b) (c.inputs + k) (c.inputs + c.gates) (gate_lower s c k kind a b r o e q h) (omega arith)
+pub step_room : (s : Step) (g : Gate) (t l r : ℕ) (p : Pos) → s ≡ step_by g → Room (dealing g) t l r p → Room (deals s) t l r p
+step_room s g t l r p e o = subst (λ (m : ℕ). Room m t l r p) (step_deals g ∙ sym (ap deals e)) o
 
 -- ---- the places after gates
 unfoldable pub moved : ℕ → Pos → Pos
@@ -202,7 +184,7 @@ own_room (suc (suc (suc n))) p t a b c = rw (ne_eqb (suc (suc (suc n))) 1 (λ e.
 
 abbrev pub InStep : ℕ → ℕ → ℕ → ℕ → Pos → Type 0
 InStep owner t l r q =
-    ((q.t1 ≤ 65536) × (q.t2 ≤ 65536) × (q.t3 ≤ 65536) × (q.at ≤ 65536)) × ((own_place owner q + 2 ≤ t) × (q.at + 4 ≤ l) × (q.at + 4 ≤ r))
+    Small q × ((own_place owner q + 2 ≤ t) × (q.at + 4 ≤ l) × (q.at + 4 ≤ r))
 
 -- what the whole loop has room for, each input has
 pub in_room_at : (file xs tapes line : List ℕ) (n : ℕ) (x y : St) (k i r r' : ℕ) → k < i → r' ≡ r

@@ -1,7 +1,9 @@
 -- What the passes over inputs, gates and outputs compute, on a run's state. No public contract cites these: laws tie them to sharing's run.
 --     St, st            the store, the transcript and the running places
+--     Small             places that a sum does not take past a number's end
 --     next_pos          the places after an AND or OR
 --     and_on, gate_on   a gate, as the document names it
+--     step_by           a gate as a step;  Below, deals, step_on: the wires that it reads, its deals, the state after it
 --     Lower             a gate reads lower wires
 --     Room, InRoom      there is room for so many more AND and OR gates; for so many inputs
 --     own_place, in_pos, input_on    an input: where on its owner's tape its draws stand, the places after it, the state after it
@@ -19,7 +21,9 @@ use Rattle.run_messages.specs.Mirror.{deal_at, line_at, on_line, in_pairs, on_li
 use Rattle.run_steps.specs.Mirror.{add_gate, not_gate, sends, takes, on_lines, put_four, put_twelve, put_held, held_at, put_six}
 use Rattle.run_messages.specs.declared.Held.{Held}
 use Rattle.run_messages.specs.declared.Three.{Three}
-use Rattle.run_passes.specs.declared.Pos.{Pos}
+use Rattle.run_steps.specs.declared.Pos.{Pos}
+use Rattle.run_passes.specs.declared.Step.{Step}
+use Rattle.run_passes.specs.declared.Step.TheVariants.{Add, Flip, Deal}
 
 pub record St : Type 0 where
   pub store : List ℕ
@@ -31,6 +35,9 @@ st store tr pos = record { store = store; tr = tr; pos = pos }
 
 abbrev pub placed : ℕ → ℕ → ℕ → ℕ → Pos
 placed t1 t2 t3 at = record { t1 = t1; t2 = t2; t3 = t3; at = at }
+
+abbrev pub Small : Pos → Type 0
+Small p = (p.t1 ≤ 65536) × (p.t2 ≤ 65536) × (p.t3 ≤ 65536) × (p.at ≤ 65536)
 
 unfoldable pub next_pos : Pos → Pos
 next_pos p = placed (p.t1 + 2) (p.t2 + 2) (p.t3 + 2) (p.at + 12)
@@ -48,6 +55,28 @@ gate_on tapes line n w (XOR a b) x = st (add_gate bits n a b w x.store) x.tr x.p
 gate_on tapes line n w (AND a b) x = and_on tapes line n a b w 0 x
 gate_on tapes line n w (OR a b) x = and_on tapes line n a b w 1 x
 gate_on tapes line n w (NOT a) x = st (not_gate bits n a w x.store) x.tr x.pos
+
+-- what the sites do at a gate
+abbrev pub step_by : Gate → Step
+step_by (XOR a b) = Add a b
+step_by (AND a b) = Deal a b 0
+step_by (OR a b) = Deal a b 1
+step_by (NOT a) = Flip a
+
+abbrev pub step_on : List ℕ → List ℕ → ℕ → ℕ → Step → St → St
+step_on tapes line n w (Add a b) x = st (add_gate bits n a b w x.store) x.tr x.pos
+step_on tapes line n w (Flip a) x = st (not_gate bits n a w x.store) x.tr x.pos
+step_on tapes line n w (Deal a b o) x = and_on tapes line n a b w o x
+
+abbrev pub deals : Step → ℕ
+deals (Add a b) = 0
+deals (Flip a) = 0
+deals (Deal a b o) = 1
+
+abbrev pub Below : Step → ℕ → Type 0
+Below (Add a b) w = (a < w) × (b < w)
+Below (Flip a) w = a < w
+Below (Deal a b o) w = (a < w) × (b < w)
 
 abbrev pub Lower : Gate → ℕ → Type 0
 Lower (XOR a b) w = (a < w) × (b < w)

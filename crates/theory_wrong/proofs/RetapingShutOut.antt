@@ -19,12 +19,13 @@ use Rattle.theory_calls.specs.Answer.{After, number_of}
 use Rattle.theory_calls.specs.Checks.{tested, row_owner, good_gate, row_gate_of, row_output, fault, verdict}
 use Rattle.theory_calls.specs.Calls.{Call, Open, GateAt, OwnerAt, OutputAt, CheckOf, TrafficOf, PlainOf, RunOf, View, ViewOf, Retape, RetapeOf, Listing, settle, does, Accepts}
 use Rattle.theory_calls.proofs.CallLaws.{good_accepts}
-use Rattle.check_circuit.specs.declared.Done.{Done}
+use Rattle.check_refusal.specs.declared.Refusal.{Refusal as Refused}
+use Rattle.check_refusal.specs.Number.{number_of as number_in, place_of as place_in}
 use Rattle.check_circuit.specs.Answers.{done_answer}
 use Rattle.theory_demands.specs.Public.{OnFile, is_open, is_gate, is_owner, is_output, is_check, is_traffic, is_plain, is_run, is_view, is_retape, is_listing, fixed_order}
 use Rattle.theory_demands.specs.Marked.{K_file, K_tapes, untouched, K_retape, good_with}
 use Rattle.theory_demands.proofs.Marked.{marked}
-use Rattle.theory_wrong.specs.Retaping.{TapeEngine, TapeMeets, TapeMeetsOn, hands_old_tapes_back, refuses_freely, ViewMeetsOn, having, in_order, ten_before_eleven, twelve_before_ten, views_in_order, retapes_in_order}
+use Rattle.theory_wrong.specs.Retaping.{Answered, TapeEngine, TapeMeets, TapeMeetsOn, hands_old_tapes_back, refuses_freely, ViewMeetsOn, having, in_order, ten_before_eleven, twelve_before_ten, views_in_order, retapes_in_order}
 
 -- the row of K8
 K8 : does (K_retape 3 (1 ∷ 0 ∷ []) (0 ∷ 1 ∷ []))
@@ -40,16 +41,16 @@ one_not_zero e = omega arith
 pub handing_back_fails_on_K8 : (lays : List ℕ → List ℕ) → ¬ OnK8 (hands_old_tapes_back lays)
 handing_back_fails_on_K8 lays m = one_not_zero (ap (λ (z : After). get_or (get_or z.lent 0 []) 0 0) (m ∙ K8))
 
-pub refusing_freely_fails : (n p : ℕ) (file inputs tapes second : List ℕ) (site : ℕ) (fresh room : List ℕ) → Accepts (Retape file inputs tapes second site fresh room)
-    → ¬ TapeMeetsOn (refuses_freely n p) file inputs tapes second site fresh room
+pub refusing_freely_fails : (e : Refused) (file inputs tapes second : List ℕ) (site : ℕ) (fresh room : List ℕ) → Accepts (Retape file inputs tapes second site fresh room)
+    → ¬ TapeMeetsOn (refuses_freely e) file inputs tapes second site fresh room
 unfolding Accepts done_answer
-refusing_freely_fails n p file inputs tapes second site fresh room a m = a n p (sym (ap (λ (z : After). z.answer) m))
+refusing_freely_fails e file inputs tapes second site fresh room a m = a (number_in e) (place_in e) (sym (ap (λ (z : After). z.answer) m))
 
-pub refusing_freely_fails_on_K8 : (n p : ℕ) → ¬ OnK8 (refuses_freely n p)
-refusing_freely_fails_on_K8 n p = refusing_freely_fails n p _ _ _ _ _ _ _ (good_accepts (K_retape 3 (1 ∷ 0 ∷ []) (0 ∷ 1 ∷ [])) [] (ap (λ (z : After). z.answer) K8))
+pub refusing_freely_fails_on_K8 : (e : Refused) → ¬ OnK8 (refuses_freely e)
+refusing_freely_fails_on_K8 e = refusing_freely_fails e _ _ _ _ _ _ _ (good_accepts (K_retape 3 (1 ∷ 0 ∷ []) (0 ∷ 1 ∷ [])) [] (ap (λ (z : After). z.answer) K8))
 
 -- so are the second draw flipped, another neighbour's tape, and whatever else is not these tapes
-pub K8_only : (r : Done) (fresh room : List ℕ) → TapeMeets K_file (1 ∷ 0 ∷ []) K_tapes (0 ∷ 1 ∷ []) 3 (untouched 10) (untouched 12) r fresh room
+pub K8_only : (r : Answered) (fresh room : List ℕ) → TapeMeets K_file (1 ∷ 0 ∷ []) K_tapes (0 ∷ 1 ∷ []) 3 (untouched 10) (untouched 12) r fresh room
     → fresh ≡ 0 ∷ 0 ∷ 0 ∷ 1 ∷ 0 ∷ 1 ∷ 0 ∷ 1 ∷ 1 ∷ 0 ∷ []
 K8_only r fresh room m = ap (λ (z : After). get_or z.lent 0 []) (m ∙ K8)
 

@@ -24,6 +24,7 @@ use Rattle.theory_calls.specs.AtBits.{circuit_checks}
 use Rattle.theory_calls.specs.Calls.{Call, unrefused, ran_of, does, RunOf}
 use Rattle.theory_calls.proofs.CallLaws.{does_good, good_accepts}
 use Rattle.theory_calls.proofs.Accepted.{run_ok}
+use Rattle.std.specs.Prelude.{Ok}
 use Rattle.run.specs.declared.Ran.TheVariants.{Good}
 use Rattle.run.specs.Answers.{run_answer}
 use Rattle.check_given.specs.Mirror.{run_checks}
@@ -62,7 +63,7 @@ laid : (b : Lent)
 unfolding is dealing ands owned objecting copies delivered in_wire delivered3 mix gate_wire gate_delivered six opened first ins_after after ins_delivered gates_delivered output out_delivered objects stop opens_delivered made transcript opened_at outputs tape_length draws at_input at_gate at_output errors side store fill le16 le32 owner_at kind_at first_at second_at output_at site_of gate_of ran_of RunOf
 laid b = (refl, refl, refl)
 
-pub K1_right : (b : Lent) → Long b → Meets K_file (1 ∷ 1 ∷ []) K_tapes (K_line []) b.outputs b.transcript b.store Good K1_outputs K1_transcript K_store
+pub K1_right : (b : Lent) → Long b → Meets K_file (1 ∷ 1 ∷ []) K_tapes (K_line []) b.outputs b.transcript b.store (Ok Good) K1_outputs K1_transcript K_store
 unfolding run_answer
 K1_right b h =
     sym
@@ -80,7 +81,7 @@ good_long inputs tapes b e =
 -- a good result that meets the promise
 module _ (b : Lent) (outs tr st : List ℕ) where
   abbrev GoodOn : (inputs tapes : List ℕ) → Type 0
-  GoodOn inputs tapes = Meets K_file inputs tapes (K_line []) b.outputs b.transcript b.store Good outs tr st
+  GoodOn inputs tapes = Meets K_file inputs tapes (K_line []) b.outputs b.transcript b.store (Ok Good) outs tr st
 
   long : (inputs tapes : List ℕ) → GoodOn inputs tapes → Long b
   unfolding run_answer

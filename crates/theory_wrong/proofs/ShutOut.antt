@@ -32,6 +32,9 @@ use Rattle.theory_calls.specs.Checks.{tested, row_owner, good_gate, row_gate_of,
 use Rattle.theory_calls.specs.Calls.{Traffic, TrafficOf, settle, does, Accepts, buffer}
 use Rattle.theory_calls.specs.Statements.{Clean, opened_plain}
 use Rattle.theory_calls.proofs.CallLaws.{good_accepts}
+use Rattle.std.specs.Prelude.{Ok}
+use Rattle.check_refusal.specs.declared.Refusal.{Refusal}
+use Rattle.check_refusal.specs.Number.{number_of as number_in, place_of as place_in}
 use Rattle.run.specs.declared.Ran.TheVariants.{Good}
 use Rattle.run.specs.Answers.{run_answer, run_after}
 use Rattle.theory_demands.specs.Marked.{K_file, K_tapes, K_line, K_store}
@@ -44,20 +47,20 @@ one_not_zero : ¬ ◌≡◌ {A = ℕ} 1 0
 one_not_zero e = omega arith
 
 -- 01: "Demand 2 shuts out an engine that refuses everything,"
-pub refusing_everything_fails : (n p : ℕ) (file inputs tapes line : List ℕ) (b : Lent) → Accepts (asked file inputs tapes line b) → ¬ MeetsOn (refuses_everything n p) file inputs tapes line b
+pub refusing_everything_fails : (e : Refusal) (file inputs tapes line : List ℕ) (b : Lent) → Accepts (asked file inputs tapes line b) → ¬ MeetsOn (refuses_everything e) file inputs tapes line b
 unfolding Accepts run_answer
-refusing_everything_fails n p file inputs tapes line b a m = a n p (sym (ap (λ (z : After). z.answer) m))
+refusing_everything_fails e file inputs tapes line b a m = a (number_in e) (place_in e) (sym (ap (λ (z : After). z.answer) m))
 
-pub refusing_everything_fails_on_K1 : (n p : ℕ) (b : Lent) → Long b → ¬ OnK1 (refuses_everything n p) b
+pub refusing_everything_fails_on_K1 : (e : Refusal) (b : Lent) → Long b → ¬ OnK1 (refuses_everything e) b
 unfolding run_answer
-refusing_everything_fails_on_K1 n p b h =
-    refusing_everything_fails n p _ _ _ _ b (good_accepts _ [] (sym (ap (λ (z : After). z.answer) (K1_right b h))))
+refusing_everything_fails_on_K1 e b h =
+    refusing_everything_fails e _ _ _ _ b (good_accepts _ [] (sym (ap (λ (z : After). z.answer) (K1_right b h))))
 
 -- "one that writes nothing,"
 pub writing_nothing_on_K1 : (b : Lent) → OnK1 writes_nothing b ↔ ((b.outputs ≡ K1_outputs) × (b.transcript ≡ K1_transcript) × (b.store ≡ K_store))
 writing_nothing_on_K1 b = (
   K1_only b _ _ _,
-  λ e. (λ i. run_after Good (e.0 i) (e.1 i) (e.2 i))
+  λ e. (λ i. run_after (Ok Good) (e.0 i) (e.1 i) (e.2 i))
       ∙ K1_right b (record { outputs_long = ap length e.0; transcript_long = ap length e.1; store_long = ap length e.2 }),
 )
 

@@ -10,9 +10,10 @@
 --     TableEngine, TableMeets, TableMeetsOn    the same for a traffic call: the three promises of `traffic_of` (crates/traffic/src/lib.rt)
 -- That these are the promises which the checker reads in the code is proofs/Promise.antt. That there is a result which meets them is what
 -- the proofs of the two functions say, and run-one and traffic-one that there is no second.
-use Rattle.std.specs.Prelude.{◌≡◌, List, [], ◌∷◌, ℕ, length}
+use Rattle.std.specs.Prelude.{◌≡◌, List, [], ◌∷◌, ℕ, length, Result}
 use Rattle.theory_calls.specs.Answer.{number_of, place_of}
 use Rattle.theory_calls.specs.Calls.{Run, Traffic, does}
+use Rattle.check_refusal.specs.declared.Refusal.{Refusal}
 use Rattle.run.specs.declared.Ran.{Ran}
 use Rattle.run.specs.Answers.{run_after}
 use Rattle.theory_demands.specs.Marked.{K_file, K_tapes, K_line}
@@ -24,9 +25,9 @@ pub record Lent : Type 0 where
   pub store : List ℕ
 
 abbrev pub Engine : Type 0
-Engine = (file inputs tapes line : List ℕ) → Lent → Ran × Lent
+Engine = (file inputs tapes line : List ℕ) → Lent → Result Ran Refusal × Lent
 
-abbrev pub Meets : (file inputs tapes line outs0 tr0 store0 : List ℕ) → Ran → (outs tr store : List ℕ) → Type 0
+abbrev pub Meets : (file inputs tapes line outs0 tr0 store0 : List ℕ) → Result Ran Refusal → (outs tr store : List ℕ) → Type 0
 Meets file inputs tapes line outs0 tr0 store0 r outs tr store = run_after r outs tr store ≡ does (Run file inputs tapes line outs0 tr0 store0)
 
 abbrev pub MeetsOn : Engine → (file inputs tapes line : List ℕ) → Lent → Type 0

@@ -2,25 +2,29 @@
 --     TapeEngine             a re-taping: from what it is given to its answer, the new tapes and the work room
 --     TapeMeets              the promise of `retape` (crates/retape/src/lib.rt), its one `ensures`;  TapeMeetsOn: an engine meets it on what it is given
 --     hands_old_tapes_back   whatever it lays down in the work room
---     refuses_freely n p     with this number and place
+--     refuses_freely e       with this number and place
 --     ViewEngine, ViewMeets, ViewMeetsOn    the same for a view
 --     having                                the checks of a number
 --     in_order                              a call that makes its checks in another order, and is right in all else
 --     ten_before_eleven, twelve_before_ten  two such orders
 --     views_in_order, retapes_in_order      a view and a re-taping in such an order
-use Rattle.std.specs.Prelude.{◌≡◌, cond, ℕ, get_or, eqb}
+use Rattle.std.specs.Prelude.{◌≡◌, cond, ℕ, get_or, eqb, Result, Ok, Err}
 use mathlib.Core.List.{List, [], ◌∷◌, flat_map}
 use Rattle.theory_calls.specs.Answer.{Answer, good, abort, refused, After}
 use Rattle.theory_calls.specs.Checks.{Refusal, verdict}
 use Rattle.theory_calls.specs.Calls.{Call, View, Retape, settle, does}
-use Rattle.check_circuit.specs.declared.Done.{Done}
-use Rattle.check_circuit.specs.declared.Done.TheVariants.{Good, Refused}
+use Rattle.check_refusal.specs.declared.Refusal.{Refusal as Refused}
+use Rattle.check_refusal.specs.Number.{refusal_with}
 use Rattle.check_circuit.specs.Answers.{done_after}
 
-abbrev pub TapeEngine : Type 0
-TapeEngine = (file inputs tapes second : List ℕ) → ℕ → (fresh room : List ℕ) → Done × List ℕ × List ℕ
+-- what view and re-taping answer
+abbrev pub Answered : Type 0
+Answered = Result (Unit {0}) Refused
 
-abbrev pub TapeMeets : (file inputs tapes second : List ℕ) → ℕ → (fresh0 room0 : List ℕ) → Done → (fresh room : List ℕ) → Type 0
+abbrev pub TapeEngine : Type 0
+TapeEngine = (file inputs tapes second : List ℕ) → ℕ → (fresh room : List ℕ) → Answered × List ℕ × List ℕ
+
+abbrev pub TapeMeets : (file inputs tapes second : List ℕ) → ℕ → (fresh0 room0 : List ℕ) → Answered → (fresh room : List ℕ) → Type 0
 TapeMeets file inputs tapes second site fresh0 room0 r fresh room = done_after r (fresh ∷ room ∷ []) ≡ does (Retape file inputs tapes second site fresh0 room0)
 
 abbrev pub TapeMeetsOn : TapeEngine → (file inputs tapes second : List ℕ) → ℕ → (fresh room : List ℕ) → Type 0
@@ -30,17 +34,17 @@ TapeMeetsOn engine file inputs tapes second site fresh room =
 
 -- 01: "Demand 3 shuts out handing the old tapes back,"
 abbrev pub hands_old_tapes_back : (List ℕ → List ℕ) → TapeEngine
-hands_old_tapes_back lays file inputs tapes second site fresh room = (Good, tapes, lays room)
+hands_old_tapes_back lays file inputs tapes second site fresh room = (Ok tt, tapes, lays room)
 
 -- "or refusing freely."
-abbrev pub refuses_freely : ℕ → ℕ → TapeEngine
-refuses_freely n p file inputs tapes second site fresh room = (Refused n p, fresh, room)
+abbrev pub refuses_freely : Refused → TapeEngine
+refuses_freely e file inputs tapes second site fresh room = (Err e, fresh, room)
 
 -- a view as the promise of `view_of` (crates/view/src/lib.rt) sees it
 abbrev pub ViewEngine : Type 0
-ViewEngine = (file inputs tapes : List ℕ) → ℕ → (view store : List ℕ) → Done × List ℕ × List ℕ
+ViewEngine = (file inputs tapes : List ℕ) → ℕ → (view store : List ℕ) → Answered × List ℕ × List ℕ
 
-abbrev pub ViewMeets : (file inputs tapes : List ℕ) → ℕ → (view0 store0 : List ℕ) → Done → (view store : List ℕ) → Type 0
+abbrev pub ViewMeets : (file inputs tapes : List ℕ) → ℕ → (view0 store0 : List ℕ) → Answered → (view store : List ℕ) → Type 0
 ViewMeets file inputs tapes site view0 store0 r view store = done_after r (view ∷ store ∷ []) ≡ does (View file inputs tapes site view0 store0)
 
 abbrev pub ViewMeetsOn : ViewEngine → (file inputs tapes : List ℕ) → ℕ → (view store : List ℕ) → Type 0
@@ -65,10 +69,10 @@ abbrev pub twelve_before_ten : List ℕ
 twelve_before_ten = 14 ∷ 1 ∷ 2 ∷ 3 ∷ 4 ∷ 5 ∷ 6 ∷ 7 ∷ 8 ∷ 9 ∷ 11 ∷ 12 ∷ 10 ∷ 13 ∷ []
 
 -- neither call aborts
-abbrev pub as_done : Answer → Done
-as_done (good vs) = Good
-as_done (abort o m) = Good
-as_done (refused n p) = Refused n p
+abbrev pub as_done : Answer → Answered
+as_done (good vs) = Ok tt
+as_done (abort o m) = Ok tt
+as_done (refused n p) = Err (refusal_with n p)
 
 abbrev pub views_in_order : List ℕ → ViewEngine
 views_in_order ns file inputs tapes site view store =

@@ -1,12 +1,12 @@
 -- The wrong engines of 01's "How far each statement goes", each a definition; proofs/ShutOut.antt shows that it does not meet the promise.
 -- Edits of the code that keep its shape make some of them in one way (run_copies' opens_a_fixed_bit, the wrong answer made-up-entry), the others not at all.
---     refuses_everything n p     with this number and place
+--     refuses_everything e       with this number and place
 --     writes_nothing             it says Good
 --     opens_a_fixed_bit v        v at every output and site; all else is right
 --     copies_plain_values        lays, sends: as what parts a gate's wire is laid down, and what is sent at a gate that deals
 --     bare, bare_bits            the plainest choice of these two
 --     makes_up_a_table           from the three counts alone
-use Rattle.std.specs.Prelude.{List, [], ◌∷◌, ◌++◌, ℕ, zero, suc, ◌+◌, ◌*◌, get_or, replicate}
+use Rattle.std.specs.Prelude.{List, [], ◌∷◌, ◌++◌, ℕ, zero, suc, ◌+◌, ◌*◌, get_or, replicate, Ok, Err}
 use Rattle.theory_sharing.specs.Ops.{bits}
 use Rattle.theory_sharing.specs.Circuit.{Circuit, none}
 use Rattle.theory_sharing.specs.Order.{if_deals}
@@ -21,16 +21,17 @@ use Rattle.theory_calls.specs.File.{inputs_of, gates_of, outputs_of, circuit}
 use Rattle.theory_calls.specs.Plain.{plain}
 use Rattle.theory_calls.specs.Calls.{Call, Run, buffer, at_wire}
 use Rattle.theory_calls.specs.Statements.{bit_family, opened_plain}
-use Rattle.run.specs.declared.Ran.TheVariants.{Good, Refused}
+use Rattle.check_refusal.specs.declared.Refusal.{Refusal}
+use Rattle.run.specs.declared.Ran.TheVariants.{Good}
 use Rattle.theory_wrong.specs.Engine.{Lent, Engine, TableEngine}
 
 -- "an engine that refuses everything"
-abbrev pub refuses_everything : ℕ → ℕ → Engine
-refuses_everything n p file inputs tapes line b = (Refused n p, b)
+abbrev pub refuses_everything : Refusal → Engine
+refuses_everything e file inputs tapes line b = (Err e, b)
 
 -- "one that writes nothing"
 abbrev pub writes_nothing : Engine
-writes_nothing file inputs tapes line b = (Good, b)
+writes_nothing file inputs tapes line b = (Ok Good, b)
 
 -- the call that an engine is to make
 abbrev pub asked : (file inputs tapes line : List ℕ) → Lent → Call
@@ -40,7 +41,7 @@ asked file inputs tapes line b = Run file inputs tapes line b.outputs b.transcri
 abbrev pub opens_a_fixed_bit : ℕ → Engine
 opens_a_fixed_bit v file inputs tapes line b =
     let c = asked file inputs tapes line b in
-    (Good, record { outputs = replicate (3 * (circuit file).outs) v; transcript = buffer 1 c; store = buffer 2 c })
+    (Ok Good, record { outputs = replicate (3 * (circuit file).outs) v; transcript = buffer 1 c; store = buffer 2 c })
 
 -- what is made of a gate by its circuit, the plain values of all wires and its number
 abbrev pub FromPlain : Type 0 → Type 0
@@ -69,7 +70,7 @@ copies_plain_values lays sends file inputs tapes line b =
     let vs = plain C inputs in
     let ws = ins_after bits C (at_wire inputs) (read C tapes) (errors C line) C.ins ++ gates_laid lays C vs C.gates in
     let ins = ins_delivered bits C (at_wire inputs) (read C tapes) (errors C line) C.ins in (
-      Good,
+      Ok Good,
       record {
         outputs = opened_plain bit_family C inputs C.outs;
         transcript = fill b.transcript (ins ++ (gates_sent sends C vs C.gates ++ opens_sent C ws C.outs));

@@ -27,17 +27,17 @@ abbrev answer : ℕ → ℕ → ℕ → Answer
 answer n p m = record { number = n; place = p; sites = m }
 
 -- of K4, an abort at output 0 that names site 2: "An abort goes out with a number of the table of refusals."
--- door_answers: `number: 100,` → `number: 13,`
+-- door_replies: `number: 100,` → `number: 13,`
 abbrev pub abort_as_refusal : WrongTold
 abort_as_refusal = record { call = K_run (20 ∷ []); gives = answer 13 0 2; leaves = (does (K_run (20 ∷ []))).lent }
 
 -- "An abort names its sites where its output belongs."
--- door_answers: `place: output,` → `place: sites,`
+-- door_replies: `place: output,` → `place: sites,`
 abbrev pub abort_place_sites : WrongTold
 abort_place_sites = record { call = K_run (20 ∷ []); gives = answer 100 2 2; leaves = (does (K_run (20 ∷ []))).lent }
 
 -- "An abort goes out with its output for the sites and its sites for the output."
--- door_replies: `door_answers::abort_told(output, sites)` → `door_answers::abort_told(sites, output)`
+-- door_replies: `Ok(Ran::Abort(output, sites)) =>` → `Ok(Ran::Abort(sites, output)) =>`
 abbrev pub run_abort : WrongTold
 run_abort = record { call = K_run (20 ∷ []); gives = answer 100 2 0; leaves = (does (K_run (20 ∷ []))).lent }
 
@@ -47,12 +47,12 @@ abbrev pub plain_file : WrongTold
 plain_file = record { call = Plain K_file (1 ∷ 1 ∷ []) (untouched 3); gives = answer 1 0 0; leaves = untouched 3 ∷ [] }
 
 -- "The run writes the transcript where the store belongs, and the store in the transcript."
--- door_runs: `outputs, transcript, store);` → `outputs, store, transcript);`
+-- door_runs: `file, inputs, tapes, line, outputs, transcript, store)` → `file, inputs, tapes, line, outputs, store, transcript)`
 abbrev pub run_buffers : WrongTold
 run_buffers = record { call = K_run []; gives = answer 10 1 0; leaves = untouched 3 ∷ untouched 26 ∷ untouched 18 ∷ [] }
 
 -- "The run takes the tapes for the line and the line for the tapes."
--- door_runs: `run::run(file, inputs, tapes, line,` → `run::run(file, inputs, line, tapes,`
+-- door_runs: `file, inputs, tapes, line, outputs, transcript, store)` → `file, inputs, line, tapes, outputs, transcript, store)`
 abbrev pub run_tapes_line : WrongTold
 run_tapes_line = record { call = K_run []; gives = answer 8 10 0; leaves = untouched 3 ∷ untouched 26 ∷ untouched 18 ∷ [] }
 
@@ -66,7 +66,7 @@ view_site = record {
 }
 
 -- "Re-taping goes from the second inputs to the first."
--- door_runs: `retape::retape(file, inputs, tapes, second,` → `retape::retape(file, second, tapes, inputs,`
+-- door_runs: `file, inputs, tapes, second, site, fresh, room)` → `file, second, tapes, inputs, site, fresh, room)`
 abbrev pub retape_back : WrongTold
 retape_back = record {
   call = K_retape 3 (1 ∷ 0 ∷ []) (0 ∷ 1 ∷ []);
@@ -75,15 +75,15 @@ retape_back = record {
 }
 
 -- A refusal of plain values, view or re-taping goes out as a place and a number: of each of them.
--- door_replies: `Done::Refused(number, place) => door_answers::refused_told(number, place)` → `Done::Refused(number, place) => door_answers::refused_told(place, number)`
+-- door_answers: `(e.number(), e.place())` → `(e.place(), e.number())`
 abbrev pub plain_refusal : WrongTold
 plain_refusal = record { call = Plain K_file (1 ∷ 2 ∷ []) (untouched 3); gives = answer 1 7 0; leaves = untouched 3 ∷ [] }
 
--- door_replies: `Done::Refused(number, place) => door_answers::refused_told(number, place)` → `Done::Refused(number, place) => door_answers::refused_told(place, number)`
+-- door_answers: `(e.number(), e.place())` → `(e.place(), e.number())`
 abbrev pub view_refusal : WrongTold
 view_refusal = record { call = View K_file (1 ∷ 1 ∷ []) K_tapes 4 (untouched 13) (untouched 18); gives = answer 0 11 0; leaves = untouched 13 ∷ untouched 18 ∷ [] }
 
--- door_replies: `Done::Refused(number, place) => door_answers::refused_told(number, place)` → `Done::Refused(number, place) => door_answers::refused_told(place, number)`
+-- door_answers: `(e.number(), e.place())` → `(e.place(), e.number())`
 abbrev pub retape_refusal : WrongTold
 retape_refusal = record { call = K_retape 3 (1 ∷ 1 ∷ []) (1 ∷ 0 ∷ []); gives = answer 2 13 0; leaves = (does (K_retape 3 (1 ∷ 1 ∷ []) (1 ∷ 0 ∷ []))).lent }
 
@@ -163,7 +163,7 @@ abbrev pub counts_exchanged : WrongStruct
 counts_exchanged = of_counts (record { number = 0; place = 0; inputs = 2; gates = 2; outputs = 2 }) (told_counts (does (Open two_outputs)).answer)
 
 -- "A refusal of open or check goes out as a place and a number."
--- door_answers: `Header::Refused(number, place)` → `Header::Refused(place, number)`
+-- door_answers: `(e.number(), e.place())` → `(e.place(), e.number())`
 abbrev pub counts_refusal : WrongStruct
 counts_refusal = of_counts (record { number = 0; place = 5; inputs = 0; gates = 0; outputs = 0 }) (told_counts (does (Check (K_with 0 2))).answer)
 
@@ -173,17 +173,18 @@ abbrev pub check_exchanged : WrongStruct
 check_exchanged = of_counts (record { number = 0; place = 0; inputs = 2; gates = 2; outputs = 2 }) (told_counts (does (Check two_outputs)).answer)
 
 -- "A refusal of open or check goes out as a place and a number.": of open
--- door_answers: `Header::Refused(number, place)` → `Header::Refused(place, number)`
+-- door_answers: `(e.number(), e.place())` → `(e.place(), e.number())`
 abbrev pub open_refusal : WrongStruct
 open_refusal = of_counts (record { number = 0; place = 3; inputs = 0; gates = 0; outputs = 0 }) (told_counts (does (Open (K_file ++ (0 ∷ [])))).answer)
 
 -- "A gate goes out with its operands exchanged."
--- door_answers: `Gate::Is(kind, first, second)` → `Gate::Is(kind, second, first)`
+-- door_answers: `first: g.first,` → `first: g.second,`
+-- door_answers: `second: g.second,` → `second: g.first,`
 abbrev pub gate_operands : WrongStruct
 gate_operands = of_gate (record { number = 0; place = 0; kind = 2; first = 1; second = 0 }) (told_gate (does (GateAt K_file 0)).answer)
 
 -- "A refused owner goes out as a place and a number."
--- door_answers: `Owner::Refused(number, place)` → `Owner::Refused(place, number)`
+-- door_answers: `(e.number(), e.place())` → `(e.place(), e.number())`
 abbrev pub owner_refusal : WrongStruct
 owner_refusal = of_owner (record { number = 2; place = 4; owner = 0 }) (told_owner (does (OwnerAt K_file 7)).answer)
 
@@ -193,7 +194,7 @@ abbrev pub owner_kept_at_refusal : WrongStruct
 owner_kept_at_refusal = of_owner (record { number = 4; place = 2; owner = 1 }) (told_owner (does (OwnerAt K_file 7)).answer)
 
 -- "A refused output goes out as a place and a number."
--- door_answers: `Output::Refused(number, place)` → `Output::Refused(place, number)`
+-- door_answers: `(e.number(), e.place())` → `(e.place(), e.number())`
 abbrev pub output_refusal : WrongStruct
 output_refusal = of_output (record { number = 1; place = 6; wire = 0 }) (told_output (does (OutputAt K_file 7)).answer)
 
@@ -213,12 +214,12 @@ abbrev pub traffic_numbers : WrongStruct
 traffic_numbers = of_traffic (record { number = 0; place = 5; bits = 0 ∷ 0 ∷ 0 ∷ 0 ∷ 0 ∷ 0 ∷ 0 ∷ 0 ∷ 0 ∷ [] }) (told_traffic (does (Traffic (K_with 0 2))))
 
 -- A buffer that is too short for a listing goes unnoticed.
--- listing: `return Listed::Refused(10, 0);` → `return Listed::Good(0);`
+-- listing: `return Err(Refusal::Buffer(0));` → `return Ok(0);`
 abbrev pub listing_unfit : WrongStruct
 listing_unfit = of_listing (record { number = 0; place = 0; length = 0 }) (told_listing (does (Listing K_job [])).answer)
 
 -- A refused listing goes out with the length of a text.
--- door_replies: `length: 0,` → `length: place,`
+-- door_answers: `length: 0,` → `length: place,`
 abbrev pub listing_length : WrongStruct
 listing_length = of_listing (record { number = 14; place = 4; length = 4 }) (told_listing (does (Listing (set K_job 4 17) (untouched 2624))).answer)
 

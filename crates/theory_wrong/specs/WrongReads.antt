@@ -26,7 +26,7 @@ two_outputs =
     ∷ 32 ∷ 0 ∷ 0 ∷ 0 ∷ 34 ∷ 0 ∷ 0 ∷ 0 ∷ 34 ∷ 0 ∷ 0 ∷ 0 ∷ 0 ∷ 0 ∷ 0 ∷ 0 ∷ []) ++ (1 ∷ 2 ∷ 0 ∷ 0 ∷ 1 ∷ 0 ∷ [])
 
 -- The place of field 24 given for field 20.
--- file_header: `return Header::Refused(3, 20);` → `return Header::Refused(3, 24);`
+-- file_header: `return Err(Refusal::Header(20));` → `return Err(Refusal::Header(24));`
 abbrev pub field_24_for_20 : Wrong
 field_24_for_20 = record {
   call = Open (set K_file 20 35);
@@ -34,7 +34,7 @@ field_24_for_20 = record {
 }
 
 -- The slice's length is not compared with field 0.
--- file_header: `if len != whole {` → `if whole != whole {`
+-- file_header: `if len != f.length as usize {` → `if len != len {`
 abbrev pub length_not_compared : Wrong
 length_not_compared = record {
   call = Open (K_file ++ (0 ∷ []));
@@ -42,7 +42,7 @@ length_not_compared = record {
 }
 
 -- A gate number that is too large comes back as the place, and not the count.
--- file_parts: `return Gate::Refused(5, gates);` → `return Gate::Refused(5, k);`
+-- file_parts: `return Err(Refusal::Gate(self.counts.gates));` → `return Err(Refusal::Gate(k));`
 abbrev pub gate_place_is_the_number : Wrong
 gate_place_is_the_number = record {
   call = GateAt K_file 7;
@@ -50,9 +50,9 @@ gate_place_is_the_number = record {
 }
 
 -- First and second of a gate exchanged.
--- file_parts: `file_numbers::u16_at(file, at + 2),` → `file_numbers::u16_at(file, at + 9),`
--- file_parts: `file_numbers::u16_at(file, at + 4),` → `file_numbers::u16_at(file, at + 2),`
--- file_parts: `file_numbers::u16_at(file, at + 9),` → `file_numbers::u16_at(file, at + 4),`
+-- file_parts: `file_numbers::u16_at(self.file, at + 2),` → `file_numbers::u16_at(self.file, at + 9),`
+-- file_parts: `file_numbers::u16_at(self.file, at + 4),` → `file_numbers::u16_at(self.file, at + 2),`
+-- file_parts: `file_numbers::u16_at(self.file, at + 9),` → `file_numbers::u16_at(self.file, at + 4),`
 abbrev pub operands_exchanged : Wrong
 operands_exchanged = record {
   call = GateAt K_file 0;
@@ -60,7 +60,7 @@ operands_exchanged = record {
 }
 
 -- The owner of the input before.
--- file_parts: `Owner::Is(file[32 + k])` → `Owner::Is(file[31 + k])`
+-- file_parts: `self.file[32 + k]` → `self.file[31 + k]`
 abbrev pub owner_one_before : Wrong
 owner_one_before = record {
   call = OwnerAt K_file 1;
@@ -68,7 +68,7 @@ owner_one_before = record {
 }
 
 -- An input number that is too large is refused with a gate's number.
--- file_parts: `return Owner::Refused(4, inputs);` → `return Owner::Refused(5, inputs);`
+-- file_parts: `return Err(Refusal::Owner(self.counts.inputs));` → `return Err(Refusal::Gate(self.counts.inputs));`
 abbrev pub owner_refused_as_a_gate : Wrong
 owner_refused_as_a_gate = record {
   call = OwnerAt K_file 7;
@@ -76,7 +76,7 @@ owner_refused_as_a_gate = record {
 }
 
 -- Outputs read as if they were one byte each.
--- file_parts: `Output::Is(file_numbers::u16_at(file, 32 + inputs + 6 * gates + 2 * k))` → `Output::Is(file_numbers::u16_at(file, 32 + inputs + 6 * gates + 1 * k))`
+-- file_parts: `6 * self.counts.gates + 2 * k,` → `6 * self.counts.gates + 1 * k,`
 abbrev pub outputs_of_one_byte : Wrong
 outputs_of_one_byte = record {
   call = OutputAt two_outputs 1;
@@ -84,15 +84,15 @@ outputs_of_one_byte = record {
 }
 
 -- An output number that is too large gets the count of gates as its place.
--- file_parts: `return Output::Refused(6, outputs);` → `return Output::Refused(6, gates);`
+-- file_parts: `return Err(Refusal::Output(self.counts.outputs));` → `return Err(Refusal::Output(self.counts.gates));`
 abbrev pub output_place_is_the_gates : Wrong
 output_place_is_the_gates = record {
   call = OutputAt two_outputs 7;
   gives = stopped_with (refused 6 0) [];
 }
 
--- The place of a bad gate is one off: that of the owners' search.
--- check_circuit: `return Header::Refused(5, g);` → `return Header::Refused(5, i);`
+-- The place of a bad gate is that of an owners' search which found none: their count.
+-- check_circuit: `return Err(Refusal::Gate(gate));` → `return Err(Refusal::Gate(f.counts.inputs));`
 abbrev pub gate_fault_at_the_owners_place : Wrong
 gate_fault_at_the_owners_place = record {
   call = Check (K_with 0 2);
@@ -100,7 +100,7 @@ gate_fault_at_the_owners_place = record {
 }
 
 -- An operand compared with W instead of with its own wire.
--- check_circuit: `let w = c.inputs + k;` → `let w = c.inputs + c.gates;`
+-- check_circuit: `f.counts.inputs + k)` → `f.counts.inputs + f.counts.gates)`
 abbrev pub operand_below_w : Wrong
 operand_below_w = record {
   call = Check (K_with 0 2);
@@ -108,7 +108,7 @@ operand_below_w = record {
 }
 
 -- An owner of 4 passes.
--- check_circuit: `!((1 <= o) & (o <= 3))` → `!((1 <= o) & (o <= 4))`
+-- check_circuit: `!((1 <= owner) & (owner <= 3))` → `!((1 <= owner) & (owner <= 4))`
 abbrev pub owner_four : Wrong
 owner_four = record {
   call = Check (owned_by 1 4);
@@ -116,7 +116,7 @@ owner_four = record {
 }
 
 -- A bad owner is refused with a gate's number.
--- check_circuit: `return Header::Refused(4, i);` → `return Header::Refused(5, i);`
+-- check_circuit: `return Err(Refusal::Owner(input));` → `return Err(Refusal::Gate(input));`
 abbrev pub owners_refused_as_gates : Wrong
 owners_refused_as_gates = record {
   call = Check (owned_by 1 4);
@@ -124,7 +124,7 @@ owners_refused_as_gates = record {
 }
 
 -- A buffer of more than W bytes is taken.
--- plain: `if values.len() != c.inputs + c.gates {` → `if values.len() < c.inputs + c.gates {`
+-- plain: `if values.len() != c.wires() {` → `if values.len() < c.wires() {`
 abbrev pub longer_buffer_passes : Wrong
 longer_buffer_passes = record {
   call = Plain K_file (1 ∷ 1 ∷ []) (untouched 4);
@@ -140,7 +140,7 @@ or_as_xor = record {
 }
 
 -- A refused file goes out with number 0.
--- traffic: `*number = r.number;` → `*number = r.place;`
+-- traffic: `*number = refusal.number();` → `*number = refusal.place();`
 abbrev pub refusal_says_good : Wrong
 refusal_says_good = record {
   call = Traffic (K_with 0 2);
@@ -156,7 +156,7 @@ comparing_copy_counted = record {
 }
 
 -- An AND or OR adds one bit for each ordered pair instead of two.
--- traffic_entries: `return [[0, 2, 2], [2, 0, 2], [2, 2, 0]];` → `return [[0, 1, 1], [1, 0, 1], [1, 1, 0]];`
+-- traffic_entries: `[[0, 2, 2], [2, 0, 2], [2, 2, 0]]` → `[[0, 1, 1], [1, 0, 1], [1, 1, 0]]`
 abbrev pub gates_counted_by_half : Wrong
 gates_counted_by_half = record {
   call = Traffic K_file;
@@ -164,7 +164,7 @@ gates_counted_by_half = record {
 }
 
 -- A made-up entry: the owner's bits to one other site are left out.
--- traffic_entries: `return [[0, 2, 2], [0, 0, 0], [0, 0, 0]];` → `return [[0, 2, 0], [0, 0, 0], [0, 0, 0]];`
+-- traffic_entries: `1 => [[0, 2, 2], [0, 0, 0], [0, 0, 0]],` → `1 => [[0, 2, 0], [0, 0, 0], [0, 0, 0]],`
 abbrev pub made_up_entry : Wrong
 made_up_entry = record {
   call = Traffic K_file;
@@ -179,8 +179,8 @@ circuit_and_inputs_exchanged = record {
   gives = stopped_with (refused 1 0) (untouched 2624 ∷ []);
 }
 
--- A refused job's number and place change places.
--- listing: `return Listed::Refused(14, p);` → `return Listed::Refused(p, 14);`
+-- A refused job's number and place change places: here 4 is refused at 14.
+-- listing: `return Err(Refusal::Job(place));` → `return Err(Refusal::Owner(14));`
 abbrev pub number_and_place_exchanged : Wrong
 number_and_place_exchanged = record {
   call = Listing (set K_job 4 17) (untouched 2624);

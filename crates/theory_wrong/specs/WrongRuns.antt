@@ -19,7 +19,7 @@ or_as_and = record {
 }
 
 -- An input of site 2 takes its draws from site 3's tape.
--- run_passes: `return pos.t2;` → `return pos.t3;`
+-- run_passes: `2 => pos.t2,` → `2 => pos.t3,`
 abbrev pub two_draws_of_another_tape : Wrong
 two_draws_of_another_tape = record {
   call = K_run [];
@@ -43,7 +43,7 @@ opens_with_another_copy = record {
 }
 
 -- Outputs are handed over though a site objected at one of them.
--- run: `if s.output < c.outputs {` → `if c.outputs < s.output {`
+-- run_openings: `return Some(Stop { output: k, sites });` → `return None;`
 abbrev pub outputs_before_a_later_abort : Wrong
 outputs_before_a_later_abort = record {
   call = K_run (20 ∷ []);
@@ -51,7 +51,7 @@ outputs_before_a_later_abort = record {
 }
 
 -- NOT flips part 1 at one of its two holders only.
--- run_steps: `flip_step(&mut store[4 * n..6 * n], a, w, 0, 1);` → `flip_step(&mut store[4 * n..6 * n], a, w, 0, 0);`
+-- run_steps: `flip_step(&mut store[4 * n..6 * n], a, w, Two { x: 0, y: 1 });` → `flip_step(&mut store[4 * n..6 * n], a, w, Two { x: 0, y: 0 });`
 abbrev pub not_at_one_holder : Wrong
 not_at_one_holder = record {
   call = Run (gated 3 0 0) (1 ∷ 1 ∷ []) (1 ∷ 0 ∷ 1 ∷ 1 ∷ []) (replicate 14 0) (untouched 3) (untouched 14) (untouched 18);
@@ -59,7 +59,7 @@ not_at_one_holder = record {
 }
 
 -- Site 2's view shows site 3's tape.
--- view: `return pos.t2;` → `return pos.t3;`
+-- view: `Site::Two => pos.t2,` → `Site::Two => pos.t3,`
 abbrev pub another_sites_tape : Wrong
 another_sites_tape = record {
   call = View (owned_by 1 3) (1 ∷ 1 ∷ []) unlike_draws 2 (untouched 13) (untouched 18);
@@ -67,7 +67,7 @@ another_sites_tape = record {
 }
 
 -- The site is not looked at: a view of site 4 is given as site 3's.
--- view: `if !check_tests::site_good(site) {` → `if !check_tests::site_good(1) {`
+-- view: `let seat = Site::try_from(site)?;` → `let seat = Site::try_from(site).unwrap_or(Site::Three);`
 abbrev pub site_four : Wrong
 site_four = record {
   call = View K_file (1 ∷ 1 ∷ []) K_tapes 4 (untouched 13) (untouched 18);
@@ -100,8 +100,8 @@ second_draw_moved = record {
 }
 
 -- Plain values under the second inputs stand first.
--- retape_tapes: `plain::values_pass(file, c, inputs, &mut room[0..n]);` → `plain::values_pass(file, c, second, &mut room[0..n]);`
--- retape_tapes: `plain::values_pass(file, c, second, &mut room[n..2 * n]);` → `plain::values_pass(file, c, inputs, &mut room[n..2 * n]);`
+-- retape_tapes: `plain::values_pass(c, inputs, &mut room[0..n]);` → `plain::values_pass(c, second, &mut room[0..n]);`
+-- retape_tapes: `plain::values_pass(c, second, &mut room[n..2 * n]);` → `plain::values_pass(c, inputs, &mut room[n..2 * n]);`
 abbrev pub halves_exchanged : Wrong
 halves_exchanged = record {
   call = K_retape 3 (1 ∷ 0 ∷ []) (0 ∷ 1 ∷ []);
@@ -117,7 +117,7 @@ tape_of_the_other_neighbour = record {
 }
 
 -- An opened bit that differs is not refused.
--- retape_differs: `c.inputs + j` → `c.inputs + c.outputs`
+-- retape_differs: `Some(c.counts.inputs + output)` → `None`
 abbrev pub opened_bit_missed : Wrong
 opened_bit_missed = record {
   call = K_retape 3 (1 ∷ 1 ∷ []) (1 ∷ 0 ∷ []);
@@ -125,7 +125,7 @@ opened_bit_missed = record {
 }
 
 -- An input of another site that differs is refused.
--- retape_differs: `if o == 1 {` → `if o <= 1 {`
+-- retape_differs: `file_counts::input_owned(c, site, k) && inputs[k] != second[k]` → `inputs[k] != second[k]`
 abbrev pub refused_where_tapes_exist : Wrong
 refused_where_tapes_exist = record {
   call = K_retape 3 (1 ∷ 0 ∷ []) (0 ∷ 1 ∷ []);

@@ -28,8 +28,8 @@ abbrev pub wide_text : List ℕ
 wide_text = 48 ∷ 32 ∷ 49 ∷ 48 ∷ 50 ∷ 53 ∷ 10 ∷ 49 ∷ 32 ∷ 49 ∷ 48 ∷ 50 ∷ 53 ∷ 10 ∷ 49 ∷ 32 ∷ 49 ∷ 10 ∷ []
 
 -- EQW makes a gate, AND of its wire with itself, and takes a number of its own.
--- bristol_wires: `let e = entry(map, t.ins, x);` → `let e = next_entry(t); let a = ours(map, t.ins, x); put_gate(gates, t.made, 2, a, a);`
--- bristol_wires: `gated(t, one_made(t.made, kind))` → `gated(t, more(t.made))`
+-- bristol_wires: `Says::Eqw { x, z } => self.put_entry(z, self.entry(x)),` → `Says::Eqw { x, z } => self.put_gate(2, self.ours(x), self.ours(x), z),`
+-- bristol_wires: `self.gated(self.made)` → `self.gated(more(self.made))`
 abbrev pub eqw_makes_a_gate : Wrong
 eqw_makes_a_gate = record {
   call = FromBristol four_gates two_owners text_room;
@@ -61,8 +61,8 @@ written_twice_passes = record {
 }
 
 -- Lines are counted from 0.
--- bristol_pass: `line += 1;` → `line += 0;`
--- bristol_pass: `at = behind(text, r.end);` → `at = behind(text, r.end); line += 1;`
+-- bristol_pass: `pass.lines += 1;` → `pass.lines += 0;`
+-- bristol_pass: `at = behind(text, line.end);` → `at = behind(text, line.end); pass.lines += 1;`
 abbrev pub lines_counted_from_0 : Wrong
 lines_counted_from_0 = record {
   call = FromBristol (headed 1 3 (51 ∷ 32 ∷ 49 ∷ 32 ∷ 48 ∷ 32 ∷ 49 ∷ 32 ∷ 49 ∷ 32 ∷ 50 ∷ 32 ∷ 77 ∷ 65 ∷ 78 ∷ 68 ∷ 10 ∷ [])) two_owners text_room;
@@ -70,7 +70,7 @@ lines_counted_from_0 = record {
 }
 
 -- Another gate word on a line beyond the gates said is told as such a word.
--- bristol_wires: `Says::Other => if t.left == 0 { 15 } else { 16 },` → `Says::Other => if t.left == 0 { 16 } else { 16 },`
+-- bristol_wires: `_ if self.text.left == 0 => Err(Refusal::TextLine(line)),` → `Says::Other => Err(Refusal::GateWord(line)), _ if self.text.left == 0 => Err(Refusal::TextLine(line)),`
 abbrev pub unknown_word_beyond_the_gates : Wrong
 unknown_word_beyond_the_gates = record {
   call = FromBristol beyond two_owners text_room;
@@ -78,7 +78,7 @@ unknown_word_beyond_the_gates = record {
 }
 
 -- INV passes with 2 1, as XOR and AND do.
--- bristol_lines: `if (kind <= 2) & (ins == 2) & (outs == 1) {` → `if (kind <= 3) & (ins == 2) & (outs == 1) {`
+-- bristol_lines: `(Some(GateWord::And), 2, 1)` → `(Some(GateWord::And | GateWord::Inv), 2, 1)`
 abbrev pub inv_reads_two : Wrong
 inv_reads_two = record {
   -- "2 1 0 1 2 INV"
@@ -95,7 +95,7 @@ inv_reads_two = record {
 }
 
 -- A wire that equals the wire count passes: "2 1 0 1 3 XOR" of three wires, and then the output is never written.
--- bristol_lines: `if !w.good | (w.value >= wires) {` → `if !w.good | (w.value > wires) {`
+-- bristol_lines: `if wire >= wires {` → `if wire > wires {`
 abbrev pub wire_at_the_count : Wrong
 wire_at_the_count = record {
   call = FromBristol (headed 1 3 (50 ∷ 32 ∷ 49 ∷ 32 ∷ 48 ∷ 32 ∷ 49 ∷ 32 ∷ 51 ∷ 32 ∷ 88 ∷ 79 ∷ 82 ∷ 10 ∷ [])) two_owners text_room;
@@ -103,7 +103,7 @@ wire_at_the_count = record {
 }
 
 -- INV becomes XOR of its wire with itself, which is 0.
--- bristol_wires: `put_gate(gates, t.made, 3, a, 0);` → `put_gate(gates, t.made, 1, a, a);`
+-- bristol_wires: `self.put_gate(3, self.ours(x), 0, z)` → `self.put_gate(1, self.ours(x), self.ours(x), z)`
 abbrev pub inv_as_xor_with_itself : Wrong
 inv_as_xor_with_itself = record {
   call = FromBristol four_gates two_owners text_room;
@@ -119,8 +119,8 @@ inv_as_xor_with_itself = record {
 }
 
 -- Gates stand by the number of the wire that they write: the AND of wires 0 and 3, which writes 2, before the XOR that writes 3.
--- bristol_wires: `put_gate(gates, t.made, k, a, b);` → `put_gate(gates, z - t.ins, k, a, b);`
--- bristol_wires: `let e = next_entry(t);` → `let e = z as u16 + 1;`
+-- bristol_wires: `let made = self.text.made;` → `let made = z - self.text.ins;`
+-- bristol_wires: `self.put_entry(z, self.text.next_entry());` → `self.put_entry(z, z as u16 + 1);`
 abbrev pub gates_by_wire_number : Wrong
 gates_by_wire_number = record {
   call = FromBristol downwards two_owners text_room;
@@ -136,7 +136,7 @@ gates_by_wire_number = record {
 }
 
 -- Outputs are the lowest wires.
--- bristol_file: `let first = t.wires - t.outs;` → `let first = t.wires - t.wires;`
+-- bristol_file: `for w in wires - numbering.text.outs..wires {` → `for w in wires - wires..numbering.text.outs {`
 abbrev pub outputs_the_lowest : Wrong
 outputs_the_lowest = record {
   call = FromBristol (headed 1 3 xor_line) two_owners text_room;
@@ -152,7 +152,7 @@ outputs_the_lowest = record {
 }
 
 -- 4 comes after 2: no owner for a value of 1,025 wires.
--- bristol_checks: `if o <= t.values as usize {` → `if (o <= t.values as usize) & (t.ins <= 1024) & (t.made <= 3072) & (t.outs <= 256) {`
+-- bristol_checks: `if let Some(place) = owners_fault(owners, t.values) {` → `if let (Some(place), None) = (owners_fault(owners, t.values), check_limits::too_large(t.ins, t.made, t.outs)) {`
 abbrev pub four_behind_two : Wrong
 four_behind_two = record {
   call = FromBristol wide_text [] text_room;
@@ -160,7 +160,7 @@ four_behind_two = record {
 }
 
 -- The byte behind the file is cleared.
--- bristol: `Filed::Good(n)` → `room[n] = 0; Filed::Good(n)`
+-- bristol: `Ok(bristol_file::put_file(room, text, pass.seat, owners, &numbering))` → `let n = bristol_file::put_file(room, text, pass.seat, owners, &numbering); room[n] = 0; Ok(n)`
 abbrev pub byte_behind_the_file_cleared : Wrong
 byte_behind_the_file_cleared = record {
   call = FromBristol four_gates two_owners text_room;
@@ -169,7 +169,7 @@ byte_behind_the_file_cleared = record {
 
 -- The room is looked at last: it is empty, and line 1 has a number of six digits.
 -- bristol: `if room.len() != 20000 {` → `if 20000 != 20000 {`
--- bristol: `let n = bristol_file::put_file(` → `if room.len() != 20000 { return Filed::Refused(10, 0); } let n = bristol_file::put_file(`
+-- bristol: `Ok(bristol_file::put_file(` → `if room.len() != 20000 { return Err(Refusal::Buffer(0)); } Ok(bristol_file::put_file(`
 abbrev pub ten_last : Wrong
 ten_last = record {
   call = FromBristol (48 ∷ 48 ∷ 48 ∷ 48 ∷ 48 ∷ 49 ∷ 32 ∷ 51 ∷ 10 ∷ []) [] [];

@@ -1,8 +1,8 @@
 -- Tables of sums, and the traffic call.
 --     plus_tables        the sum of two tables is the table of the sums
---     under_sums, sums_none, sums_turn, sums_end    the first k steps add at most 2 to an entry each; none, one more, all
+--     under_sums, sums_none, sums_turn    the first k steps add at most 2 to an entry each; none, one more
 --     input_sum, gate_sum, output_sum    one step, as the code makes it
---     traffic_refused, traffic_good    the call, by what its check answers;  numbers_are, zeros_are, table_is: what the code leaves is what it does
+--     traffic_refused, traffic_good    the call, by what its check answers;  table_is, number_is, place_is: what the code leaves is what it does
 -- Assumes nothing.
 use mathlib.Core.Path.{◌≡◌, refl, sym, ap, ap₂, ◌∙◌, subst}
 use mathlib.Core.Bool.{Bool, true, false, cond, not, ◌&&◌}
@@ -10,30 +10,24 @@ use mathlib.Core.List.{List, []}
 use Prim.Native.Nat.{ℕ, zero, suc, ◌+◌, ◌*◌, ◌≤◌, ◌<◌}
 use native.Mathlib.Omega.{arith}
 use native.Mathlib.Numerals.{add-one}
-use native.Mathlib.Nat.{le_antisymm}
 use lib.Dec.{eqb}
 use Rattle.theory_sharing.specs.Sites.{Site, s1, s2, s3, next, is}
 use Rattle.theory_sharing.specs.Circuit.{Gate, XOR, AND, OR, NOT, dealing}
 use Rattle.theory_sharing.specs.Traffic.{input_adds, gate_adds, output_adds, sum, entry, traffic_table, no_table}
 use Rattle.theory_calls.specs.File.{circuit, site_of, inputs_of, gates_of, outputs_of}
-use Rattle.theory_calls.specs.Answer.{good, refused, number_of, After, place_of}
+use Rattle.theory_calls.specs.Answer.{good, number_of, After, place_of}
 use Rattle.theory_calls.specs.Checks.{verdict}
 use Rattle.theory_calls.specs.Calls.{Check, Traffic, TrafficOf, answers, does, Accepts}
 use Rattle.theory_calls.proofs.CallLaws.{does_good, does_refused}
-use Rattle.file_parts.specs.declared.Owner.{Owner}
-use Rattle.file_parts.specs.declared.Owner.TheVariants.{Is as OwnerIs}
-use Rattle.file_parts.specs.Mirror.{owner_by}
-use Rattle.file_parts.specs.Checked.{IsChecked}
-use Rattle.file_parts.proofs.ReaderLaws.{owner_some}
+use Rattle.check_refusal.specs.declared.Refusal.{Refusal}
+use Rattle.check_refusal.specs.Number.{refused_by, number_of as number_in, place_of as place_in}
+use Rattle.std.specs.Prelude.{Result, Ok, Err}
 use Rattle.file_header.specs.declared.Counts.{Counts}
-use Rattle.file_header.specs.declared.Header.{Header}
-use Rattle.file_header.specs.declared.Header.TheVariants.{Good, Refused}
 use Rattle.file_header.specs.Answers.{header_answer}
 use Rattle.file_header.specs.Opened.{Opened}
 use Rattle.check_circuit.proofs.FrontLaws.{circuit_refuses, circuit_passes}
 use Rattle.traffic_entries.specs.Mirror.{table_of, plus, Under, from_input, from_gate, from_output}
-use Rattle.traffic.specs.declared.Refusal.{Refusal}
-use Rattle.traffic.specs.Mirror.{input_steps, gate_steps, output_steps, sums_upto, refusal_by}
+use Rattle.traffic.specs.Mirror.{input_steps, gate_steps, output_steps, sums_upto}
 
 pub plus_tables : (f g : Site → Site → ℕ) → plus (table_of f) (table_of g) ≡ table_of (λ a b. f a b + g a b)
 unfolding plus
@@ -101,9 +95,6 @@ under_more t m n h u = record {
 under_by : (f : Site → Site → ℕ) → ((a b : Site) → f a b ≤ 2) → Under (table_of f) 16384
 under_by f h = under_more _ 2 16384 (omega arith) (under_table f 2 h)
 
-pub under_room : (t : List (List ℕ)) → Under t 8192 → Under t 16384
-under_room t u = under_more t 8192 16384 (omega arith) u
-
 pub under_input : (o : ℕ) (m : List (List ℕ)) → m ≡ from_input o → Under m 16384
 unfolding from_input
 under_input o m e = subst (λ (z : List (List ℕ)). Under z 16384) (sym e) (under_by (input_adds (site_of o)) (λ a b. input_most (site_of o) a b))
@@ -137,9 +128,6 @@ module _ (F : ℕ → Site → Site → ℕ) where
   sums_turn k t u e q =
       q ∙ ap (λ (z : List (List ℕ)). plus z (table_of (F k))) e ∙ plus_tables (λ a b. sum (λ i. F i a b) k) (F k) ∙ ap (sums_upto F) (sym (add-one k))
 
-  pub sums_end : (t : List (List ℕ)) (k n : ℕ) → t ≡ sums_upto F k → k ≤ n → n ≤ k → t ≡ sums_upto F n
-  sums_end t k n e a b = e ∙ ap (sums_upto F) (le_antisymm a b)
-
 pub input_few : (s : List ℕ) (i : ℕ) (a b : Site) → input_steps s i a b ≤ 2
 input_few s i a b = input_most ((circuit s).owner i) a b
 
@@ -161,10 +149,10 @@ gate_table (NOT i) d e = rw e
 pub gate_sum : (k : Gate) (d : ℕ) (t m r : List (List ℕ)) → d ≡ dealing k → m ≡ from_gate d → r ≡ plus t m → r ≡ plus t (table_of (gate_adds k))
 gate_sum k d t m r e q a = a ∙ ap (plus t) (q ∙ gate_table k d e)
 
-pub input_sum : (s : List ℕ) (c : Counts) (k o : ℕ) (a : Owner) (t m r : List (List ℕ)) → a ≡ owner_by s c k → a ≡ OwnerIs o → k < c.inputs → m ≡ from_input o → r ≡ plus t m
+pub input_sum : (s : List ℕ) (k o : ℕ) (t m r : List (List ℕ)) → site_of o ≡ (circuit s).owner k → m ≡ from_input o → r ≡ plus t m
     → r ≡ plus t (table_of (input_adds ((circuit s).owner k)))
 unfolding from_input
-input_sum s c k o a t m r e q h em er = er ∙ ap (plus t) (em ∙ ap from_input (owner_some s c k o a e q h))
+input_sum s k o t m r q em er = er ∙ ap (plus t) (em ∙ ap (λ (z : Site). table_of (input_adds z)) q)
 
 pub output_sum : (t m r : List (List ℕ)) → m ≡ from_output → r ≡ plus t m → r ≡ plus t (table_of output_adds)
 unfolding from_output
@@ -194,33 +182,26 @@ whole_is s c i g o ig r op ei eg eo e1 e2 =
     ∙ plus_tables (λ a b. f a b + h a b) w
 
 -- the call, by the check's answer: it checks the circuit and nothing else
-traffic_refused : (s : List ℕ) (h : Header) → answers (header_answer h) ≡ does (Check s) → (n p : ℕ) → h ≡ Refused n p
-    → does (Traffic s) ≡ record { answer = refused n p; returned = no_table; lent = [] }
+pub traffic_refused : (s : List ℕ) (e : Refusal) → answers (header_answer (Err e)) ≡ does (Check s)
+    → record { answer = refused_by e; returned = no_table; lent = [] } ≡ does (Traffic s)
 unfolding TrafficOf
-traffic_refused s h e n p q = does_refused (Traffic s) n p (circuit_refuses s h e n p q [])
+traffic_refused s e q = sym (does_refused (Traffic s) (number_in e) (place_in e) (circuit_refuses s e q []))
 
-traffic_good : (s : List ℕ) → Accepts (Check s) → does (Traffic s) ≡ record { answer = good []; returned = traffic_table (circuit s); lent = [] }
+pub traffic_good : (s : List ℕ) (r : List (List ℕ)) → Accepts (Check s) → r ≡ traffic_table (circuit s)
+    → record { answer = good []; returned = r; lent = [] } ≡ does (Traffic s)
 unfolding verdict TrafficOf
-traffic_good s a = does_good (Traffic s) (circuit_passes s a [])
+traffic_good s r a m = ap (λ (z : List (List ℕ)). record { answer = good []; returned = z; lent = [] }) m ∙ sym (does_good (Traffic s) (circuit_passes s a []))
 
 -- what the code leaves in the two numbers, and returns
-pub numbers_are : (s : List ℕ) (h : Header) (r : Refusal) → answers (header_answer h) ≡ does (Check s) → IsChecked h s → r ≡ refusal_by h
-    → (r.number ≡ number_of (does (Traffic s)).answer) × (r.place ≡ place_of (does (Traffic s)).answer)
-unfolding number_of place_of
-numbers_are s (Good c) r e k q = (
-  ap (λ (z : Refusal). z.number) q ∙ ap (λ (z : After). number_of z.answer) (sym (traffic_good s k.passes)),
-  ap (λ (z : Refusal). z.place) q ∙ ap (λ (z : After). place_of z.answer) (sym (traffic_good s k.passes)),
-)
-numbers_are s (Refused n p) r e k q = (
-  ap (λ (z : Refusal). z.number) q ∙ ap (λ (z : After). number_of z.answer) (sym (traffic_refused s (Refused n p) e n p refl)),
-  ap (λ (z : Refusal). z.place) q ∙ ap (λ (z : After). place_of z.answer) (sym (traffic_refused s (Refused n p) e n p refl)),
-)
+module _ (s : List ℕ) (x : After) (e : x ≡ does (Traffic s)) where
+  pub table_is : x.returned ≡ (does (Traffic s)).returned
+  table_is = ap (λ (z : After). z.returned) e
 
-pub zeros_are : (s : List ℕ) (h : Header) (n p : ℕ) → answers (header_answer h) ≡ does (Check s) → h ≡ Refused n p → no_table ≡ (does (Traffic s)).returned
-zeros_are s h n p e q = ap (λ (z : After). z.returned) (sym (traffic_refused s h e n p q))
+  pub number_is : (n : ℕ) → n ≡ number_of x.answer → n ≡ number_of (does (Traffic s)).answer
+  number_is n q = q ∙ ap (λ (z : After). number_of z.answer) e
 
-pub table_is : (s : List ℕ) (r : List (List ℕ)) → Accepts (Check s) → r ≡ traffic_table (circuit s) → r ≡ (does (Traffic s)).returned
-table_is s r a m = m ∙ ap (λ (z : After). z.returned) (sym (traffic_good s a))
+  pub place_is : (p : ℕ) → p ≡ place_of x.answer → p ≡ place_of (does (Traffic s)).answer
+  place_is p q = q ∙ ap (λ (z : After). place_of z.answer) e
 
 -- two results that meet the statement are equal
 pub traffic_one : (s : List ℕ) (t u : List (List ℕ)) (n m p q : ℕ)

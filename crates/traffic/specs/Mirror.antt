@@ -5,10 +5,7 @@ use Rattle.std.specs.Prelude.{List, ℕ}
 use Rattle.theory_sharing.specs.Sites.{Site}
 use Rattle.theory_sharing.specs.Traffic.{input_adds, gate_adds, output_adds, sum}
 use Rattle.theory_calls.specs.File.{circuit}
-use Rattle.file_header.specs.declared.Header.{Header}
-use Rattle.file_header.specs.declared.Header.TheVariants.{Good, Refused}
 use Rattle.traffic_entries.specs.Mirror.{table_of}
-use Rattle.traffic.specs.declared.Refusal.{Refusal}
 
 -- what each step of a file adds
 abbrev pub input_steps : List ℕ → ℕ → Site → Site → ℕ
@@ -22,7 +19,3 @@ output_steps o = output_adds
 
 unfoldable pub sums_upto : (ℕ → Site → Site → ℕ) → ℕ → List (List ℕ)
 sums_upto F k = table_of (λ a b. sum (λ i. F i a b) k)
-
-abbrev pub refusal_by : Header → Refusal
-refusal_by (Good c) = record { number = 0; place = 0 }
-refusal_by (Refused n p) = record { number = n; place = p }

@@ -7,52 +7,43 @@ mod several;
 mod views;
 
 use trials_calls::{readers, single, texts, values};
-use trials_stream::input::Read;
 use trials_stream::{input, print};
 
-// Whether there is a call of this number.
-fn made(which: usize) -> bool {
-    match which {
-        1..=15 => true,
-        _ => false,
-    }
-}
-
-// Makes the next call, and answers whether to go on. Its number is judged before anything more is read.
-fn call() -> bool {
-    let first = input::byte();
-    let Read::Is(which) = first else {
-        return false;
-    };
-    if !made(which) {
+// Makes the next call. None: the stream has ended, or holds no call. The call's number is judged before anything more is read.
+fn call() -> Option<()> {
+    let which = input::byte()?;
+    if !matches!(which, 1..=15) {
         print::word(b"unknown call\n");
-        return false;
+        return None;
     }
-    let asked = input::number();
-    let Read::Is(number) = asked else {
-        return false;
-    };
+    let number = input::number()?;
     make(which, number)
 }
 
-// The call by its number: those that take several slices, or else one that takes a single one.
-fn make(which: usize, number: usize) -> bool {
+// The call by its number, which is that of docs/TRIALS.md: an enum would only say each number a second time.
+fn make(which: usize, number: usize) -> Option<()> {
     match which {
+        1 => single::on_slice(single::open),
+        2 => single::on_slice(|file| single::gate(file, number)),
+        3 => single::on_slice(|file| single::owner(file, number)),
+        4 => single::on_slice(|file| single::output(file, number)),
+        5 => single::on_slice(single::check),
         6 => values::plain(),
         7 => several::run(),
         8 => views::view(number),
         9 => retapes::retape(number),
-        11 => jobs::listing(),
-        12..=14 => readers::call(which, number),
+        10 => single::on_slice(single::table),
+        11 => single::on_slice(jobs::listed),
         15 => texts::from_bristol(number),
-        _ => single::call(which, number),
+        _ => readers::call(which, number),
     }
 }
 
-// A proved loop has to end, and nothing says that a stream does. So the loop counts its turns down, from a number that no stream uses up.
+// A proved loop has to end, and nothing says that a stream does. So the loop has a number of turns that no stream uses up.
 fn main() {
-    let mut turns = u64::MAX;
-    while turns > 0 && call() {
-        turns -= 1;
+    for _ in 0..u64::MAX {
+        if call().is_none() {
+            break;
+        }
     }
 }

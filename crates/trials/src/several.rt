@@ -1,53 +1,30 @@
 // The run. Each slice has a room of its own.
 use run::Ran;
-use trials_stream::{input, print, rooms};
+use trials_stream::rooms::room;
+use trials_stream::{input, print};
 
-// Reads what a run is given, then what it is lent, makes the call and answers whether to go on.
-pub fn run() -> bool {
-    let mut file = rooms::room_20480();
-    let mut inputs = rooms::room_1280();
-    let mut tapes = rooms::room_20992();
-    let mut line = rooms::room_43008();
-    let f = input::slice(true, &mut file);
-    let i = input::slice(f.whole, &mut inputs);
-    let t = input::slice(i.whole, &mut tapes);
-    let l = input::slice(t.whole, &mut line);
-    let f_end = f.len;
-    let i_end = i.len;
-    let t_end = t.len;
-    let l_end = l.len;
-    run_given(
-        l.whole,
-        &file[..f_end],
-        &inputs[..i_end],
-        &tapes[..t_end],
-        &line[..l_end],
-    )
+// Reads what a run is given, then what it is lent, and makes the call.
+pub fn run() -> Option<()> {
+    let mut file = room::<20480>();
+    let mut inputs = room::<1280>();
+    let mut tapes = room::<20992>();
+    let mut line = room::<43008>();
+    let file = input::slice(&mut file)?;
+    let inputs = input::slice(&mut inputs)?;
+    let tapes = input::slice(&mut tapes)?;
+    let line = input::slice(&mut line)?;
+    run_given(file, inputs, tapes, line)
 }
 
-// `on` says whether what is given was whole.
-fn run_given(on: bool, file: &[u8], inputs: &[u8], tapes: &[u8], line: &[u8]) -> bool {
-    let mut outputs = rooms::room_1024();
-    let mut transcript = rooms::room_43008();
-    let mut store = rooms::room_25088();
-    let o = input::slice(on, &mut outputs);
-    let t = input::slice(o.whole, &mut transcript);
-    let s = input::slice(t.whole, &mut store);
-    let o_end = o.len;
-    let t_end = t.len;
-    let s_end = s.len;
-    if s.whole {
-        ran(
-            file,
-            inputs,
-            tapes,
-            line,
-            &mut outputs[..o_end],
-            &mut transcript[..t_end],
-            &mut store[..s_end],
-        );
-    }
-    s.whole
+fn run_given(file: &[u8], inputs: &[u8], tapes: &[u8], line: &[u8]) -> Option<()> {
+    let mut outputs = room::<1024>();
+    let mut transcript = room::<43008>();
+    let mut store = room::<25088>();
+    let outputs = input::slice(&mut outputs)?;
+    let transcript = input::slice(&mut transcript)?;
+    let store = input::slice(&mut store)?;
+    ran(file, inputs, tapes, line, outputs, transcript, store);
+    Some(())
 }
 
 // The run's answer and the three buffers afterwards.
@@ -62,9 +39,9 @@ fn ran(
 ) {
     print::word(b"run");
     match run::run(file, inputs, tapes, line, outputs, transcript, store) {
-        Ran::Good => print::word(b" good\n"),
-        Ran::Abort(output, sites) => print::abort(output, sites),
-        Ran::Refused(n, p) => print::refused(n, p),
+        Ok(Ran::Good) => print::good(&[]),
+        Ok(Ran::Abort(output, sites)) => print::abort(output, sites),
+        Err(refusal) => print::refused(refusal.number(), refusal.place()),
     }
     print::buffer(b"outputs", outputs);
     print::buffer(b"transcript", transcript);

@@ -1,46 +1,26 @@
 // The view. Each slice has a room of its own.
-use check_circuit::Done;
-use trials_stream::{input, print, rooms};
+use trials_calls::answered;
+use trials_stream::rooms::room;
+use trials_stream::{input, print};
 
-// Reads what the call is given, then what it is lent, makes it and answers whether to go on.
-pub fn view(site: usize) -> bool {
-    let mut file = rooms::room_20480();
-    let mut inputs = rooms::room_1280();
-    let mut tapes = rooms::room_20992();
-    let f = input::slice(true, &mut file);
-    let i = input::slice(f.whole, &mut inputs);
-    let t = input::slice(i.whole, &mut tapes);
-    let f_end = f.len;
-    let i_end = i.len;
-    let t_end = t.len;
-    view_given(
-        t.whole,
-        &file[..f_end],
-        &inputs[..i_end],
-        &tapes[..t_end],
-        site,
-    )
+// Reads what the call is given, then what it is lent, and makes it.
+pub fn view(site: usize) -> Option<()> {
+    let mut file = room::<20480>();
+    let mut inputs = room::<1280>();
+    let mut tapes = room::<20992>();
+    let file = input::slice(&mut file)?;
+    let inputs = input::slice(&mut inputs)?;
+    let tapes = input::slice(&mut tapes)?;
+    view_given(file, inputs, tapes, site)
 }
 
-// `on` says whether what is given was whole.
-fn view_given(on: bool, file: &[u8], inputs: &[u8], tapes: &[u8], site: usize) -> bool {
-    let mut view = rooms::room_25088();
-    let mut store = rooms::room_25088();
-    let v = input::slice(on, &mut view);
-    let s = input::slice(v.whole, &mut store);
-    let v_end = v.len;
-    let s_end = s.len;
-    if s.whole {
-        viewed(
-            file,
-            inputs,
-            tapes,
-            site,
-            &mut view[..v_end],
-            &mut store[..s_end],
-        );
-    }
-    s.whole
+fn view_given(file: &[u8], inputs: &[u8], tapes: &[u8], site: usize) -> Option<()> {
+    let mut view = room::<25088>();
+    let mut store = room::<25088>();
+    let view = input::slice(&mut view)?;
+    let store = input::slice(&mut store)?;
+    viewed(file, inputs, tapes, site, view, store);
+    Some(())
 }
 
 // The answer, and both buffers afterwards.
@@ -53,10 +33,7 @@ fn viewed(
     store: &mut [u8],
 ) {
     print::word(b"view");
-    match view::view_of(file, inputs, tapes, site, view, store) {
-        Done::Good => print::word(b" good\n"),
-        Done::Refused(n, p) => print::refused(n, p),
-    }
+    answered(view::view_of(file, inputs, tapes, site, view, store).map(|()| []));
     print::buffer(b"view", view);
     print::buffer(b"store", store);
 }

@@ -1,5 +1,5 @@
 // What is printed, in pieces.
-ghost use Rattle.std.specs.Prelude.{◌<◌, ◌≤◌, length};
+ghost use Rattle.std.specs.Prelude.{◌≡◌, ◌<◌, ◌≤◌};
 
 // The number of standard output.
 const STDOUT_FILENO: i32 = 1;
@@ -9,138 +9,109 @@ pub fn word(text: &[u8]) {
     io::write_all(STDOUT_FILENO, text);
 }
 
-// A space and a number.
-pub fn number(n: usize) {
-    word(b" ");
-    io::print_decimal(STDOUT_FILENO, n as u64);
+// Numbers, each behind a space, and the line's end.
+pub fn numbers(all: &[usize]) {
+    for n in all {
+        word(b" ");
+        io::print_decimal(STDOUT_FILENO, *n as u64);
+    }
+    word(b"\n");
 }
 
 // The line of a refusal, behind the call's name.
 pub fn refused(refusal: usize, place: usize) {
     word(b" refused");
-    number(refusal);
-    number(place);
-    word(b"\n");
+    numbers(&[refusal, place]);
 }
 
 // The line of an abort, behind the call's name.
 pub fn abort(output: usize, sites: usize) {
     word(b" abort");
-    number(output);
-    number(sites);
-    word(b"\n");
+    numbers(&[output, sites]);
 }
 
-// The line of a good answer with one number, and of one with three.
-pub fn good_one(a: usize) {
+// The line of a good answer, with its numbers.
+pub fn good(all: &[usize]) {
     word(b" good");
-    number(a);
-    word(b"\n");
-}
-
-pub fn good_three(a: usize, b: usize, c: usize) {
-    word(b" good");
-    number(a);
-    number(b);
-    number(c);
-    word(b"\n");
+    numbers(all);
 }
 
 // The line of a lent buffer: its name and its bytes.
 pub fn buffer(name: &[u8], bytes: &[u8]) {
     word(name);
-    if bytes.len() > 0 {
+    if !bytes.is_empty() {
         word(b" ");
     }
     signs(bytes);
     word(b"\n");
 }
 
-// The signs of bytes: 0 or 1 as that, any other as x and two signs. They wait in `text` until it is full, so that not each is printed alone.
+// Signs wait here until the text is full, so that not each is printed alone. Not an ArrayVec: its push would answer a Result that nobody needs.
+#[derive(Drop)]
+struct Waiting {
+    text: [u8; 4096],
+    len: usize,
+    ghost fits: { len ≤ 4096 },
+}
+
+impl Waiting {
+    fn new() -> Waiting {
+        Waiting {
+            text: [0; 4096],
+            len: 0,
+        }
+    }
+
+    fn push(&mut self, sign: u8) {
+        if self.len == 4096 {
+            self.flush();
+        }
+        self.text[self.len] = sign;
+        self.len += 1;
+    }
+
+    // Prints what waits.
+    fn flush(&mut self)
+        ensures { self.new.len ≡ 0 }
+    {
+        word(&self.text[..self.len]);
+        self.len = 0;
+    }
+}
+
+// The signs of bytes: 0 or 1 as that, any other as x and two signs.
 fn signs(bytes: &[u8]) {
-    let mut text = [0u8; 4096];
-    let mut waiting: usize = 0;
-    let mut k: usize = 0;
-    while k < bytes.len() {
-        waiting = put(&mut text, waiting, bytes[k]);
-        k += 1;
+    let mut text = Waiting::new();
+    for byte in bytes {
+        if *byte <= 1 {
+            text.push(b'0' + *byte);
+        } else {
+            text.push(b'x');
+            text.push(sign(*byte / 16));
+            text.push(sign(*byte % 16));
+        }
     }
-    flush(&text, waiting, 0);
-}
-
-// Puts a byte's signs behind those that wait, and answers how many wait then.
-fn put(text: &mut [u8; 4096], waiting: usize, byte: u8) -> usize
-    requires { waiting ≤ 4096 }
-    ensures { result ≤ 4096 }
-{
-    let at = flush(text, waiting, 4093);
-    if byte <= 1 {
-        text[at] = b'0' + byte;
-        return at + 1;
-    }
-    text[at] = b'x';
-    text[at + 1] = sign(byte / 16);
-    text[at + 2] = sign(byte % 16);
-    at + 3
-}
-
-// Prints the signs that wait where they are more than `most`, and answers how many wait then.
-fn flush(text: &[u8; 4096], waiting: usize, most: usize) -> usize
-    requires { waiting ≤ 4096 }
-    ensures { result ≤ most }
-{
-    if waiting <= most {
-        return waiting;
-    }
-    front(text, waiting);
-    0
-}
-
-// The first n bytes of a text.
-pub fn front(text: &[u8], n: usize)
-    requires { n ≤ length text.now }
-{
-    word(&text[..n]);
+    text.flush();
 }
 
 // The sign of a number below 16.
 fn sign(n: u8) -> u8
     requires { n < 16 }
 {
-    if n < 10 {
-        return b'0' + n;
-    }
-    b'a' + (n - 10)
+    b"0123456789abcdef"[n as usize]
 }
 
-// The lines of a listing's first n bytes, each behind `| `. They wait as signs do.
-pub fn lines(text: &[u8; 2624], n: usize)
-    requires { n ≤ 2624 }
-{
-    let mut shown = [0u8; 4096];
-    let mut waiting: usize = 0;
+// The lines of a listing, each behind `| `. They wait as signs do.
+pub fn lines(text: &[u8]) {
+    let mut shown = Waiting::new();
     let mut begins = true;
-    let mut k: usize = 0;
-    while k < n {
-        waiting = put_in_line(&mut shown, waiting, text[k], begins);
-        begins = text[k] == b'\n';
-        k += 1;
+    for byte in text {
+        if begins {
+            shown.push(b'|');
+            shown.push(b' ');
+        }
+        shown.push(*byte);
+        begins = *byte == b'\n';
     }
-    flush(&shown, waiting, 0);
-}
-
-// Puts a byte of a line, or the line's first with `| ` before it, behind those that wait, and answers how many wait then.
-fn put_in_line(shown: &mut [u8; 4096], waiting: usize, byte: u8, first: bool) -> usize
-    requires { waiting ≤ 4096 }
-    ensures { result ≤ 4096 }
-{
-    let at = flush(shown, waiting, 4093);
-    if !first {
-        shown[at] = byte;
-        return at + 1;
-    }
-    shown[at] = b'|';
-    shown[at + 1] = b' ';
-    shown[at + 2] = byte;
-    at + 3
+    shown.flush();
 }

@@ -1,3 +1,2 @@
 pub mod ViewLaws
-pub mod PartLaws
 pub mod ViewCall

@@ -23,7 +23,7 @@ use Rattle.theory_calls.proofs.Accepted.{ViewOk, view_ok}
 use Rattle.file_header.specs.declared.Counts.{Counts}
 use Rattle.file_parts.specs.Checked.{Checked}
 use Rattle.check_slices.proofs.ChainLaws.{nothing}
-use Rattle.check_circuit.specs.declared.Done.TheVariants.{Good}
+use Rattle.std.specs.Prelude.{Ok}
 use Rattle.check_circuit.specs.Answers.{done_answer, done_after}
 use Rattle.check_circuit.proofs.FrontLaws.{Front, given_passed}
 use Rattle.view.specs.Mirror.{view_checks, Ready}
@@ -36,14 +36,14 @@ module _ (f x t : List ℕ) (s : ℕ) (v st : List ℕ) where
   unfolding Without ViewOf
   front = record { goes = refl; leaves = λ n k. refl; returns = λ n p. refl; no_13 = omega arith }
 
-  module _ (c : Counts) (k : Checked f c) (clear : verdict (view_checks f x t s (length v) (length st)) ≡ accepted) where
+  module _ (c : Counts) (k : Checked f c) (clear : accepted ≡ verdict (view_checks f x t s (length v) (length st))) where
     accepts : Accepts the_view
     accepts = verdict_accepts the_view (given_passed the_view f _ [] _ front k.passes clear ∙ sym nothing)
 
     ok : ViewOk f x t s v st
     ok = view_ok f x t s v st accepts
 
-    pub ready : Ready f c s (length x) (length t) (length v) (length st)
+    pub ready : Ready f c (site_of s) (length x) (length t) (length v) (length st)
     ready =
         let o = k.opened in
         record {
@@ -55,6 +55,6 @@ module _ (f x t : List ℕ) (s : ℕ) (v st : List ℕ) where
         }
 
     pub accepted_view : (v' st' : List ℕ) → v' ≡ view_from bits (site_of s) (circuit f) (at_wire x) t
-        → st' ≡ store (after bits (circuit f) (at_wire x) (read (circuit f) t) no_errors (circuit f).gates) → done_after Good (v' ∷ st' ∷ []) ≡ does the_view
+        → st' ≡ store (after bits (circuit f) (at_wire x) (read (circuit f) t) no_errors (circuit f).gates) → done_after (Ok tt) (v' ∷ st' ∷ []) ≡ does the_view
     unfolding done_answer ViewOf
     accepted_view v' st' a b = (λ i. record { answer = good []; returned = []; lent = a i ∷ b i ∷ [] }) ∙ sym (accepts_does the_view accepts)

@@ -2,7 +2,8 @@
 --     four_got, deals_got        the four bits of an AND or OR that reach the site, by sender
 --     joined                     the gates begin where the inputs end
 --     gate_step                  one gate: from the document's state to the next
-use mathlib.Core.Path.{◌≡◌, refl, sym, ap, ◌∙◌}
+--     step_done, step_room       a gate by its step, and its room
+use mathlib.Core.Path.{◌≡◌, refl, sym, ap, ◌∙◌, subst}
 use mathlib.Core.List.{List, [], ◌∷◌, ◌++◌, append-nil}
 use Prim.Native.Nat.{ℕ, suc, ◌+◌, ◌*◌, ◌≤◌, ◌<◌}
 use native.Mathlib.Omega.{arith}
@@ -24,7 +25,9 @@ use Rattle.run_messages.specs.Mirror.{twelve}
 use Rattle.run_steps.specs.Mirror.{on_lines, put_four, takes}
 use Rattle.run_messages.specs.declared.Four.{Four}
 use Rattle.run_messages.specs.declared.Twelve.{Twelve}
-use Rattle.run_passes.specs.Mirror.{St, st, Lower}
+use Rattle.run_steps.specs.declared.Pos.{Pos}
+use Rattle.run_passes.specs.declared.Step.{Step}
+use Rattle.run_passes.specs.Mirror.{St, st, Lower, step_by, deals as deals_in}
 use Rattle.run_laws.specs.Link.{sent3, held_of, Reads}
 use Rattle.run_laws.specs.Loops.{place, in_places}
 use Rattle.run_laws.specs.Places.{Operands, sent_at, gate_at, as_is, stored}
@@ -33,10 +36,10 @@ use Rattle.run_laws.proofs.GateReads.{bits_zero, and_sent, or_sent}
 use Rattle.run_laws.proofs.WholeLaw.{lower_is}
 use Rattle.run_laws.proofs.StoredLaws.{moved_none, live_as_is, stored_long, stored_reads, gate_stored}
 use Rattle.run_laws.proofs.WireLaws.{operands, wire_at}
-use Rattle.run_passes.proofs.PassLaws.{placed_eq}
+use Rattle.run_passes.proofs.PassLaws.{placed_eq, step_deals}
 use Rattle.run_laws.proofs.PassesAtPlaces.{st_eq}
 use Rattle.run_laws.proofs.DrawLaws.{spots, drawn}
-use Rattle.view_inputs.specs.Mirror.{four_of_site, with_at, past_and, and_seen, gate_seen, ins_seen, state_seen}
+use Rattle.view_inputs.specs.Mirror.{four_of_site, with_at, past_and, and_seen, gate_seen, step_seen, ins_seen, state_seen, AndRoom}
 use Rattle.view_inputs.proofs.InputsSeen.{on_none}
 
 all_none : (m : Twelve) → on_lines bits none m ≡ m
@@ -171,3 +174,17 @@ module _ (s : Site) (C : Circuit) (x : ℕ → ℕ) (tapes : List ℕ) (n : ℕ)
     -- one gate
     pub gate_step : length (gots g) + 4 * dealing (C.gate g) ≤ length old → gate_seen s tapes n (C.ins + g) (C.gate g) (state g) ≡ state (suc g)
     gate_step r = kind_law (C.gate g) refl low r ∙ state_suc g
+
+-- ---- a gate as the code takes it, by its step
+step_is : (s : Site) (tapes : List ℕ) (n w : ℕ) (g : Gate) (x : St) → step_seen s tapes n w (step_by g) x ≡ gate_seen s tapes n w g x
+unfolding gate_seen
+step_is s tapes n w (XOR a b) x = refl
+step_is s tapes n w (AND a b) x = refl
+step_is s tapes n w (OR a b) x = refl
+step_is s tapes n w (NOT a) x = refl
+
+pub step_done : (s : Site) (tapes : List ℕ) (n w : ℕ) (x y : St) (k : Step) (g : Gate) → k ≡ step_by g → y ≡ step_seen s tapes n w k x → y ≡ gate_seen s tapes n w g x
+step_done s tapes n w x y k g e q = q ∙ ap (λ (z : Step). step_seen s tapes n w z x) e ∙ step_is s tapes n w g x
+
+pub step_room : (k : Step) (g : Gate) (t r : ℕ) (p : Pos) → k ≡ step_by g → AndRoom (dealing g) t r p → AndRoom (deals_in k) t r p
+step_room k g t r p e o = subst (λ (m : ℕ). AndRoom m t r p) (step_deals g ∙ sym (ap deals_in e)) o

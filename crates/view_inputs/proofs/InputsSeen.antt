@@ -1,13 +1,12 @@
 -- The pass over the inputs, as one site sees it, is the document's.
 --     on_none                    a clean line adds nothing
 --     pairs_are, mine_of         the pairs of an input; the site's is what it gets
---     seen_two, seen_own         two bits delivered, or not
 --     see_is                     it gets it unless it is its own
 --     in_step                    one input: from the document's state to the next
 use mathlib.Core.Path.{◌≡◌, refl, sym, ap, ◌∙◌}
 use mathlib.Core.Bool.{Bool, true, false, cond}
 use mathlib.Core.List.{List, [], ◌∷◌, ◌++◌, append-nil}
-use Prim.Native.Nat.{ℕ, zero, suc, ◌+◌, ◌*◌, ◌≤◌, ◌<◌}
+use Prim.Native.Nat.{ℕ, suc, ◌+◌, ◌≤◌, ◌<◌}
 use native.Mathlib.Omega.{arith}
 use lib.ListN.{length, length-append}
 use Rattle.theory_sharing.specs.Ops.{bits}
@@ -25,7 +24,7 @@ use Rattle.run_messages.specs.Mirror.{two, four, deal_at, on_line, in_pairs}
 use Rattle.run_steps.specs.Mirror.{put_held}
 use Rattle.run_messages.specs.declared.Two.{Two}
 use Rattle.run_messages.specs.declared.Four.{Four}
-use Rattle.run_passes.specs.declared.Pos.{Pos}
+use Rattle.run_steps.specs.declared.Pos.{Pos}
 use Rattle.run_passes.specs.Mirror.{St, st, own_place, in_pos}
 use Rattle.run_laws.specs.Link.{sent_of, held_of}
 use Rattle.run_laws.specs.Places.{as_is, stored}
@@ -55,34 +54,18 @@ module _ (D : Deal) where
   mine_of s2 t = refl
   mine_of s3 t = refl
 
--- two bits delivered, or not
-pub seen_two : (own at : ℕ) (p : Two) (l m : List ℕ) → own ≡ 0 → m ≡ put_two at p l → (m ≡ see_two own at p l) × (at + 2 ≡ past_two own at)
-unfolding see_two past_two
-seen_two own at p l m z e = (e ∙ ap (λ (k : ℕ). see_two k at p l) (sym z), ap (λ (k : ℕ). past_two k at) (sym z))
-
-pub seen_own : (own at : ℕ) (p : Two) (l : List ℕ) → (own ≡ 0 → ⊥) → (l ≡ see_two own at p l) × (at ≡ past_two own at)
-unfolding see_two past_two
-seen_own zero at p l h = absurd (h refl)
-seen_own (suc k) at p l h = (refl, refl)
-
 -- what reaches the site is what is written, and moves its place on
 module _ (old done : List ℕ) (p : Pair) where
-  see_by : (b : Bool) (own at : ℕ) → own ≡ cond b 1 0 → length done ≡ at → at + 2 ≤ length old + 2 * own
-      → (see_two own at (two p.0 p.1) (fill old done) ≡ fill old (done ++ cond b [] (p.0 ∷ p.1 ∷ []))) × (past_two own at ≡ length (done ++ cond b [] (p.0 ∷ p.1 ∷ [])))
+  see_by : (b : Bool) (at : ℕ) → length done ≡ at → at + cond b 0 2 ≤ length old
+      → (see_two b at (two p.0 p.1) (fill old done) ≡ fill old (done ++ cond b [] (p.0 ∷ p.1 ∷ []))) × (past_two b at ≡ length (done ++ cond b [] (p.0 ∷ p.1 ∷ [])))
   unfolding see_two past_two put_two
-  see_by true own at e l r = (
-    ap (λ (k : ℕ). see_two k at (two p.0 p.1) (fill old done)) e ∙ ap (fill old) (sym (append-nil done)),
-    ap (λ (k : ℕ). past_two k at) e ∙ sym l ∙ ap length (sym (append-nil done)),
-  )
-  see_by false own at e l r = (
-    ap (λ (k : ℕ). see_two k at (two p.0 p.1) (fill old done)) e ∙ fill_two old done at p.0 p.1 l (omega arith),
-    ap (λ (k : ℕ). past_two k at) e ∙ (let z = length-append done (p.0 ∷ p.1 ∷ []) in omega arith),
-  )
+  see_by true at l r = (ap (fill old) (sym (append-nil done)), sym l ∙ ap length (sym (append-nil done)))
+  see_by false at l r = (fill_two old done at p.0 p.1 l r, let z = length-append done (p.0 ∷ p.1 ∷ []) in omega arith)
 
-  pub see_is : (s t : Site) (own at : ℕ) → own ≡ cond (is s t) 1 0 → length done ≡ at → at + 2 ≤ length old + 2 * own
-      → (see_two own at (two p.0 p.1) (fill old done) ≡ fill old (done ++ got s t p)) × (past_two own at ≡ length (done ++ got s t p))
+  pub see_is : (s t : Site) (at : ℕ) → length done ≡ at → at + cond (is s t) 0 2 ≤ length old
+      → (see_two (is s t) at (two p.0 p.1) (fill old done) ≡ fill old (done ++ got s t p)) × (past_two (is s t) at ≡ length (done ++ got s t p))
   unfolding got
-  see_is s t own at e l r = see_by (is s t) own at e l r
+  see_is s t at l r = see_by (is s t) at l r
 
 -- ---- the states
 module _ (s : Site) (C : Circuit) (x : ℕ → ℕ) (tapes : List ℕ) (n : ℕ) (l old : List ℕ) where
@@ -99,19 +82,20 @@ module _ (s : Site) (C : Circuit) (x : ℕ → ℕ) (tapes : List ℕ) (n : ℕ)
   had i = ins_got bits s C x T i
 
   -- one input
-  pub in_step : (i owner own : ℕ) → i < C.ins → C.owner i ≡ site_of owner → own ≡ cond (is s (C.owner i)) 1 0
-      → length (had i) + 2 ≤ length old + 2 * own → input_seen s tapes n i (x i) owner own (ins i) ≡ ins (suc i)
+  pub in_step : (i owner : ℕ) → i < C.ins → C.owner i ≡ site_of owner
+      → length (had i) + cond (is s (C.owner i)) 0 2 ≤ length old → input_seen s tapes n i (x i) owner (is s (C.owner i)) (ins i) ≡ ins (suc i)
   unfolding input_seen ins_seen ins_got own_place in_places
-  in_step i owner own h q e r =
+  in_step i owner h q r =
       let S : ℕ → List ℕ = stored C x T no_errors n as_is l in
       let D : Deal = dealt_at i in
       let t : Site = C.owner i in
+      let own : Bool = is s t in
       let K : deal_at bits tapes (own_place owner (in_place C i)) (x i) ≡ sent_of D = deal_is C x tapes i owner h q in
       let A : put_held n i (in_pairs owner (sent_of D) (sent_of D)) (S i) ≡ S (suc i)
       = ap (λ (m : Four). put_held n i (in_pairs owner (sent_of D) m) (S i)) (sym (on_none (sent_of D))) ∙ input_stored C x T no_errors n as_is l i owner h q D refl in
       let B : pair_of_site s (in_pairs owner (sent_of D) (sent_of D)) ≡ two (mine s (dealt t D)).0 (mine s (dealt t D)).1
       = ap (pair_of_site s) (pairs_are D owner ∙ ap (λ (z : Site). held_of (hold (dealt z D))) (sym q)) ∙ mine_of D s t in
-      let seen = see_is old (had i) (mine s (dealt t D)) s t own (length (had i)) e refl r in
+      let seen = see_is old (had i) (mine s (dealt t D)) s t (length (had i)) refl r in
       let here : Pos = with_at (in_place C i) (length (had i)) in
       let P : with_at (in_pos owner here) (past_two own (length (had i))) ≡ with_at (in_place C (suc i)) (length (had i ++ got s t (mine s (dealt t D))))
       = ap (λ (z : Pos). with_at z (past_two own (length (had i)))) (in_pos_is owner here ∙ ap (one_more here) (sym q)) ∙ (λ j. with_at (in_place_suc C i j) (seen.1 j)) in

@@ -23,8 +23,8 @@ use Rattle.theory_calls.specs.File.{owner_at, circuit}
 use Rattle.theory_calls.specs.Calls.{at_wire}
 use Rattle.theory_calls.proofs.Limits.{ands_most}
 use Rattle.file_header.specs.declared.Counts.{Counts}
-use Rattle.run_passes.specs.declared.Pos.{Pos}
-use Rattle.run_passes.specs.Mirror.{St, st, own_place}
+use Rattle.run_steps.specs.declared.Pos.{Pos}
+use Rattle.run_passes.specs.Mirror.{St, st, Small, own_place}
 use Rattle.run_passes.proofs.PassLaws.{owned_room, own_room}
 use Rattle.run_laws.specs.Places.{puts}
 use Rattle.run_laws.specs.Loops.{base, in_places}
@@ -37,6 +37,11 @@ pub one_or_none : (b : Bool) → cond b 1 0 ≤ 1
 one_or_none true = le_refl 1
 one_or_none false = omega arith
 
+-- two bits for the input of another site
+other_two : (b : Bool) → cond b 0 2 + 2 * cond b 1 0 ≡ 2
+other_two true = refl
+other_two false = refl
+
 owned_slow : (f : ℕ → Site) (s : Site) (k n : ℕ) → k ≤ n → owned f s n + k ≤ owned f s k + n
 unfolding owned
 owned_slow f s k zero h = let e : k ≡ 0 = omega arith in subst (λ (m : ℕ). owned f s 0 + m ≤ owned f s m + 0) (sym e) (le_refl _)
@@ -47,8 +52,7 @@ owned_slow f s k (suc n) h =
 -- an input's step has room
 abbrev pub InRoom : List ℕ → Site → ℕ → ℕ → ℕ → Pos → Type 0
 InRoom f s k tapes got q =
-    ((q.t1 ≤ 65536) × (q.t2 ≤ 65536) × (q.t3 ≤ 65536) × (q.at ≤ 65536))
-    × ((own_place (owner_at f k) q + 2 ≤ tapes) × (q.at + 2 ≤ got + 2 * cond (is s ((circuit f).owner k)) 1 0))
+    Small q × ((own_place (owner_at f k) q + 2 ≤ tapes) × (q.at + cond (is s ((circuit f).owner k)) 0 2 ≤ got))
 
 -- ---- inputs
 module _ (f xs tapes : List ℕ) (s : Site) (store got : List ℕ) (c : Counts) (d : Seeing f c s (length tapes) (length got) (length store)) where
@@ -66,19 +70,19 @@ module _ (f xs tapes : List ℕ) (s : Site) (store got : List ℕ) (c : Counts) 
   ins_start pos e = st_eq refl refl e
 
   -- how far the site's bits have come
-  there : (k : ℕ) → k < c.inputs → length (ins_got bits s C (at_wire xs) (read C tapes) k) + 2 ≤ length got + 2 * cond (is s (C.owner k)) 1 0
+  there : (k : ℕ) → k < c.inputs → length (ins_got bits s C (at_wire xs) (read C tapes) k) + cond (is s (C.owner k)) 0 2 ≤ length got
   unfolding owned
   there k h =
       let l = ins_got_length bits s C (at_wire xs) (read C tapes) k in let i = d.checked.opened.ins_are in
-      let o = owned_slow C.owner s (suc k) C.ins (omega arith) in let g = d.lg in
+      let o = owned_slow C.owner s (suc k) C.ins (omega arith) in let g = d.lg in let b = other_two (is s (C.owner k)) in
       omega arith
 
   pub ins_turn : (k : ℕ) (y z : St) → k < c.inputs → y ≡ state k
-      → z ≡ input_seen s tapes n k (get_or xs k 0) (owner_at f k) (cond (is s (C.owner k)) 1 0) y → z ≡ state (k + 1)
+      → z ≡ input_seen s tapes n k (get_or xs k 0) (owner_at f k) (is s (C.owner k)) y → z ≡ state (k + 1)
   ins_turn k y z h e q =
       let i = d.checked.opened.ins_are in
-      q ∙ ap (input_seen s tapes n k (get_or xs k 0) (owner_at f k) (cond (is s (C.owner k)) 1 0)) e
-      ∙ in_step s C (at_wire xs) tapes n store got k (owner_at f k) (cond (is s (C.owner k)) 1 0) (omega arith) refl refl (there k h)
+      q ∙ ap (input_seen s tapes n k (get_or xs k 0) (owner_at f k) (is s (C.owner k))) e
+      ∙ in_step s C (at_wire xs) tapes n store got k (owner_at f k) (omega arith) refl (there k h)
       ∙ ap state (sym (add-one k))
 
   pub ins_room : (k r : ℕ) (y : St) → k < c.inputs → r ≡ length got → y ≡ state k → InRoom f s k (length tapes) r y.pos

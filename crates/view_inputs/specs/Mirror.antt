@@ -3,11 +3,11 @@
 --     pair_of_site, four_of_site       of three pairs the site's; of the twelve bits of an AND or OR the four that reach it
 --     put_two, see_two, past_two       two delivered bits; the same unless they are the site's own; the place after them
 --     past_and                         the places after an AND or OR
---     input_seen, and_seen, gate_seen, gates_seen    a state after an input, after a gate, after the first k gates
+--     input_seen, and_seen, gate_seen, step_seen, gates_seen    a state after an input, after a gate, after the first k gates
 --     ins_seen, state_seen             the document's states after the first i inputs, and after all inputs and the first g gates
 --     start_seen                       where it begins
 --     AndRoom, Seeing, Begun           there is room for so many AND and OR gates; every length; the state is one that inputs lead to
-use Rattle.std.specs.Prelude.{◌≡◌, List, ℕ, zero, suc, ◌+◌, ◌*◌, ◌≤◌, length, set}
+use Rattle.std.specs.Prelude.{◌≡◌, Bool, true, false, List, ℕ, ◌+◌, ◌*◌, ◌≤◌, length, set}
 use Rattle.theory_sharing.specs.Ops.{bits}
 use Rattle.theory_sharing.specs.Sites.{Site, s1, s2, s3}
 use Rattle.theory_sharing.specs.Circuit.{Gate, XOR, AND, OR, NOT, Circuit, Draws, no_errors, ands, all_ands, all_owned}
@@ -24,7 +24,9 @@ use Rattle.run_messages.specs.declared.Two.{Two}
 use Rattle.run_messages.specs.declared.Four.{Four}
 use Rattle.run_messages.specs.declared.Twelve.{Twelve}
 use Rattle.run_messages.specs.declared.Held.{Held}
-use Rattle.run_passes.specs.declared.Pos.{Pos}
+use Rattle.run_steps.specs.declared.Pos.{Pos}
+use Rattle.run_passes.specs.declared.Step.{Step}
+use Rattle.run_passes.specs.declared.Step.TheVariants.{Add, Flip, Deal}
 use Rattle.run_passes.specs.Mirror.{St, st, placed, own_place, in_pos}
 use Rattle.run_laws.specs.Loops.{place, in_place}
 use Rattle.run_laws.specs.Places.{as_is, stored}
@@ -43,14 +45,14 @@ four_of_site s3 m = four m.s1.c m.s1.d m.s2.a m.s2.b
 unfoldable pub put_two : ℕ → Two → List ℕ → List ℕ
 put_two at p l = set (set l at p.x) (at + 1) p.y
 
--- 0: another site's input, 1: its own
-unfoldable pub see_two : ℕ → ℕ → Two → List ℕ → List ℕ
-see_two zero at p l = put_two at p l
-see_two (suc o) at p l = l
+-- whether the input is its own
+unfoldable pub see_two : Bool → ℕ → Two → List ℕ → List ℕ
+see_two true at p l = l
+see_two false at p l = put_two at p l
 
-unfoldable pub past_two : ℕ → ℕ → ℕ
-past_two zero at = at + 2
-past_two (suc o) at = at
+unfoldable pub past_two : Bool → ℕ → ℕ
+past_two true at = at
+past_two false at = at + 2
 
 -- the same places on the tapes
 abbrev pub with_at : Pos → ℕ → Pos
@@ -60,7 +62,7 @@ unfoldable pub past_and : Pos → Pos
 past_and p = placed (p.t1 + 2) (p.t2 + 2) (p.t3 + 2) (p.at + 4)
 
 -- ---- a step
-unfoldable pub input_seen : Site → List ℕ → ℕ → ℕ → ℕ → ℕ → ℕ → St → St
+unfoldable pub input_seen : Site → List ℕ → ℕ → ℕ → ℕ → ℕ → Bool → St → St
 input_seen s tapes n w v owner own x =
     let k = deal_at bits tapes (own_place owner x.pos) v in
     st (put_held n w (in_pairs owner k k) x.store) (see_two own x.pos.at (pair_of_site s (in_pairs owner k k)) x.tr)
@@ -76,6 +78,12 @@ gate_seen s tapes n w (XOR a b) x = st (add_gate bits n a b w x.store) x.tr x.po
 gate_seen s tapes n w (AND a b) x = and_seen s tapes n a b w 0 x
 gate_seen s tapes n w (OR a b) x = and_seen s tapes n a b w 1 x
 gate_seen s tapes n w (NOT a) x = st (not_gate bits n a w x.store) x.tr x.pos
+
+-- by the step that a gate is
+abbrev pub step_seen : Site → List ℕ → ℕ → ℕ → Step → St → St
+step_seen s tapes n w (Add a b) x = st (add_gate bits n a b w x.store) x.tr x.pos
+step_seen s tapes n w (Flip a) x = st (not_gate bits n a w x.store) x.tr x.pos
+step_seen s tapes n w (Deal a b o) x = and_seen s tapes n a b w o x
 
 abbrev pub gates_seen : Site → List ℕ → List ℕ → ℕ → ℕ → St → ℕ → St
 gates_seen s file tapes i n x k = up_to (λ g. gate_seen s tapes n (i + g) ((circuit file).gate g)) x k

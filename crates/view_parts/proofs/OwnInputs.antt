@@ -1,6 +1,6 @@
 -- Own inputs, as the code writes them.
---     own_yes, own_no             an input that is the site's own, and one that is not
---     own_none, own_turn, own_room, own_end    the loop
+--     own_none, own_room, own_end    the loop
+--     own_yes, own_no                its turn at an input that is the site's own, and at one that is not
 -- Assumes nothing.
 use mathlib.Core.Path.{◌≡◌, refl, sym, ap, ◌∙◌}
 use mathlib.Core.Bool.{Bool, true, false, cond}
@@ -8,7 +8,7 @@ use mathlib.Core.List.{List, [], ◌∷◌, ◌++◌, append-nil}
 use Prim.Native.Nat.{ℕ, zero, suc, ◌+◌, ◌<◌, ◌≤◌}
 use native.Mathlib.Omega.{arith}
 use native.Mathlib.Numerals.{add-one}
-use native.Mathlib.Nat.{le_antisymm}
+use native.Mathlib.Nat.{le_antisymm, add-zero}
 use lib.ListN.{length, get_or, set}
 use Rattle.theory_sharing.specs.Sites.{Site, is, if_own}
 use Rattle.theory_sharing.specs.Circuit.{Circuit, owned, all_owned}
@@ -22,21 +22,14 @@ use Rattle.file_header.specs.declared.Counts.{Counts}
 use Rattle.file_header.specs.Opened.{Opened}
 use Rattle.run_passes.proofs.PassLaws.{owned_room}
 use Rattle.view_inputs.proofs.InsLaws.{one_or_none}
-use Rattle.view_parts.specs.Mirror.{put_own}
 
--- ---- own inputs
-pub own_no : (own q p v : ℕ) (l : List ℕ) → own ≡ q → own ≡ 0 → (l ≡ put_own q p v l) × (p ≡ p + q)
-unfolding put_own
-own_no own q p v l e z = (ap (λ (k : ℕ). put_own k p v l) (sym z ∙ e), omega arith)
-
-pub own_yes : (own q p v : ℕ) (l : List ℕ) → own ≡ q → own ≤ 1 → (own ≡ 0 → ⊥) → (set l p v ≡ put_own q p v l) × (p + 1 ≡ p + q)
-unfolding put_own
-own_yes zero q p v l e h n = absurd (n refl)
-own_yes (suc k) q p v l e h n = (ap (λ (m : ℕ). put_own m p v l) e, omega arith)
+-- a value written where it is the site's own
+abbrev put_own : Bool → ℕ → ℕ → List ℕ → List ℕ
+put_own true p v l = set l p v
+put_own false p v l = l
 
 own_by : (b : Bool) (old done : List ℕ) (p v : ℕ) → length done ≡ p → p + cond b 1 0 ≤ length old
-    → put_own (cond b 1 0) p v (fill old done) ≡ fill old (done ++ cond b (v ∷ []) [])
-unfolding put_own
+    → put_own b p v (fill old done) ≡ fill old (done ++ cond b (v ∷ []) [])
 own_by true old done p v e h = fill_one old done p v e (omega arith)
 own_by false old done p v e h = ap (fill old) (sym (append-nil done))
 
@@ -52,21 +45,34 @@ module _ (f xs old : List ℕ) (s : Site) (c : Counts) (op : Opened f c) (lo : l
   abbrev own : ℕ → ℕ
   own k = cond (is s (C.owner k)) 1 0
 
-  pub own_room : (k p r : ℕ) → k < c.inputs → p ≡ owned C.owner s k → r ≡ length old → c.inputs ≤ 1024 → (p + own k ≤ r) × (p ≤ 65536)
-  own_room k p r h e q few =
-      let i = op.ins_are in let a = owned_room C.owner s k C.ins (omega arith) in let b = owned_few C.owner s k in
+  pub own_room : (k p r : ℕ) → k < c.inputs → p ≡ owned C.owner s k → r ≡ length old → true ≡ is s (C.owner k) → (p < r) × (p ≤ 65536)
+  own_room k p r h e q y =
+      let i = op.ins_are in let few = op.few_inputs in let a = owned_room C.owner s k C.ins (omega arith) in let b = owned_few C.owner s k in
+      let o : 1 ≡ own k = ap (λ (b : Bool). cond b 1 0) y in
       (omega arith, omega arith)
 
-  pub own_turn : (k p p' : ℕ) (l l' : List ℕ) → k < c.inputs → l ≡ fill old (own_ins s C (at_wire xs) k) → p ≡ owned C.owner s k
-      → l' ≡ put_own (own k) p (get_or xs k 0) l → p' ≡ p + own k
-      → (l' ≡ fill old (own_ins s C (at_wire xs) (k + 1))) × (p' ≡ owned C.owner s (k + 1))
+  own_law : (k p : ℕ) (l : List ℕ) → k < c.inputs → l ≡ fill old (own_ins s C (at_wire xs) k) → p ≡ owned C.owner s k
+      → (put_own (is s (C.owner k)) p (get_or xs k 0) l ≡ fill old (own_ins s C (at_wire xs) (k + 1))) × (p + own k ≡ owned C.owner s (k + 1))
   unfolding own_ins owned if_own
-  own_turn k p p' l l' h el ep q r =
+  own_law k p l h el ep =
       let i = op.ins_are in let a = owned_room C.owner s k C.ins (omega arith) in (
-        q ∙ ap (put_own (own k) p (get_or xs k 0)) el ∙ own_by (is s (C.owner k)) old (own_ins s C (at_wire xs) k) p (get_or xs k 0) (own_many s C (at_wire xs) k ∙ sym ep) (omega arith)
+        ap (put_own (is s (C.owner k)) p (get_or xs k 0)) el ∙ own_by (is s (C.owner k)) old (own_ins s C (at_wire xs) k) p (get_or xs k 0) (own_many s C (at_wire xs) k ∙ sym ep) (omega arith)
             ∙ ap (λ (m : ℕ). fill old (own_ins s C (at_wire xs) m)) (sym (add-one k)),
-        r ∙ ap (λ (m : ℕ). m + own k) ep ∙ ap (owned C.owner s) (sym (add-one k)),
+        ap (λ (m : ℕ). m + own k) ep ∙ ap (owned C.owner s) (sym (add-one k)),
       )
+
+  -- one more input, the site's own or another's
+  pub own_yes : (k p v : ℕ) (l : List ℕ) → k < c.inputs → l ≡ fill old (own_ins s C (at_wire xs) k) → p ≡ owned C.owner s k → v ≡ get_or xs k 0 → true ≡ is s (C.owner k)
+      → (set l p v ≡ fill old (own_ins s C (at_wire xs) (k + 1))) × (p + 1 ≡ owned C.owner s (k + 1))
+  own_yes k p v l h el ep ev y =
+      let q = own_law k p l h el ep in
+      ((λ i. put_own (y i) p (ev i) l) ∙ q.0, ap (λ (b : Bool). p + cond b 1 0) y ∙ q.1)
+
+  pub own_no : (k p : ℕ) (l : List ℕ) → k < c.inputs → l ≡ fill old (own_ins s C (at_wire xs) k) → p ≡ owned C.owner s k → false ≡ is s (C.owner k)
+      → (l ≡ fill old (own_ins s C (at_wire xs) (k + 1))) × (p ≡ owned C.owner s (k + 1))
+  own_no k p l h el ep y =
+      let q = own_law k p l h el ep in
+      (ap (λ (b : Bool). put_own b p (get_or xs k 0) l) y ∙ q.0, sym (add-zero p) ∙ ap (λ (b : Bool). p + cond b 1 0) y ∙ q.1)
 
   pub own_end : (k : ℕ) (l : List ℕ) → l ≡ fill old (own_ins s C (at_wire xs) k) → k ≤ c.inputs → c.inputs ≤ k → l ≡ own_ins s C (at_wire xs) C.ins
   own_end k l e a b =

@@ -1,11 +1,10 @@
 -- What the functions that write a view's parts compute. No public contract cites these: laws tie them to sharing's views.
 --     copies_of_site           of an opening's six bits the two that reach the site
 --     opened_bit               what it opens there
---     put_own                  a value written where it is the site's own
 --     copies_on, copies_all    the delivered bits after an opening, and after the first k
 --     opened_on, opened_all    the opened bits, likewise
 --     all_seen, totals_seen    the document's delivered bits and opened bits, whole
-use Rattle.std.specs.Prelude.{List, ℕ, zero, suc, ◌+◌, ◌*◌, set}
+use Rattle.std.specs.Prelude.{List, ℕ, ◌+◌, ◌*◌, set}
 use Rattle.theory_sharing.specs.Ops.{bits}
 use Rattle.theory_sharing.specs.Sites.{Site, s1, s2, s3}
 use Rattle.theory_sharing.specs.Tapes.{read}
@@ -26,11 +25,6 @@ copies_of_site s3 h = two h.p1.y h.p2.x
 
 unfoldable pub opened_bit : Site → Held → ℕ
 opened_bit s h = bits.add (bits.add (pair_of_site s h).x (pair_of_site s h).y) (copies_of_site s h).x
-
--- 0: another site's, 1: its own
-unfoldable pub put_own : ℕ → ℕ → ℕ → List ℕ → List ℕ
-put_own zero p v l = l
-put_own (suc o) p v l = set l p v
 
 module _ (s : Site) (file store : List ℕ) (n at : ℕ) where
   unfoldable pub copies_on : ℕ → List ℕ → List ℕ

@@ -1,21 +1,39 @@
+use Rattle.std.proofs.lemmas.Result.{err_from_is_err_and}
 use Rattle.bristol.proofs.CallLaws.{room_wrong, line_refused, outs_fit, rest_refused, limits, seated, filed}
-use borrow.Author.Rules.{rules}
 use Rattle.bristol.proofs.from_bristol.Goals as goal
 
 pub returns-then-room-ne20000 : goal.returns-then-room-ne20000
 returns-then-room-ne20000 c = room_wrong _ _ _ c.if-room-ne20000.true
 
-pub returns-then-p-ne0 : goal.returns-then-p-ne0
-returns-then-p-ne0 c = line_refused c.args.text.now c.args.owners.now c.args.room.now c.if-room-ne20000.false c.read_lines-p.result _ _ _ _ c.no_wires-map.ensures c.gates_room-gates.ensures c.read_lines-p.ensures.gates_after c.if-p-ne0.true
+pub returns-in_err-pass : goal.returns-in_err-pass
+returns-in_err-pass c =
+    let n = c.new-numbering.ensures in
+    let p = err_from_is_err_and c.from_residual.result c.from_residual.ensures.1 in
+    rw (p.1, p.2) (line_refused c.args.text.now c.args.owners.now c.args.room.now c.if-room-ne20000.false _ n.map n.gates n.text _ c.in_err-pass.ensures.told)
 
-pub rest_fault-f-requires : goal.rest_fault-f-requires
-rest_fault-f-requires c = outs_fit c.args.text.now c.args.owners.now c.args.room.now c.if-room-ne20000.false c.read_lines-p.result _ _ _ _ c.no_wires-map.ensures c.gates_room-gates.ensures c.read_lines-p.ensures.gates_after c.if-p-ne0.false
+pub rest_check-requires : goal.rest_check-requires
+rest_check-requires c =
+    let n = c.new-numbering.ensures in
+    outs_fit c.args.text.now c.args.owners.now c.args.room.now c.if-room-ne20000.false _ n.map n.gates n.text c.in_ok-pass.pass _ c.in_ok-pass.ensures.told
 
-pub returns-then-f-ne0 : goal.returns-then-f-ne0
-returns-then-f-ne0 c = rest_refused c.args.text.now c.args.owners.now c.args.room.now c.if-room-ne20000.false c.read_lines-p.result _ _ _ _ c.no_wires-map.ensures c.gates_room-gates.ensures c.read_lines-p.ensures.gates_after c.if-p-ne0.false _ c.rest_fault-f.ensures c.if-f-ne0.true
+pub returns-in_err-rest_check : goal.returns-in_err-rest_check
+returns-in_err-rest_check c =
+    let n = c.new-numbering.ensures in
+    let p = err_from_is_err_and c.from_residual-in_err-rest_check.result c.from_residual-in_err-rest_check.ensures.1 in
+    rw (p.1, p.2)
+    (rest_refused c.args.text.now c.args.owners.now c.args.room.now c.if-room-ne20000.false _ n.map n.gates n.text c.in_ok-pass.pass _ c.in_ok-pass.ensures.told _ c.rest_check.ensures _ c.in_err-rest_check.was)
 
-pub put_file-n-requires : goal.put_file-n-requires
-put_file-n-requires c = record { seat_in_bounds = c.read_lines-p.ensures.seat_in_bounds; ins_bound = limits c.args.text.now c.args.owners.now c.args.room.now c.if-room-ne20000.false c.read_lines-p.result _ _ _ _ c.no_wires-map.ensures c.gates_room-gates.ensures c.read_lines-p.ensures.gates_after c.if-p-ne0.false _ c.rest_fault-f.ensures c.if-f-ne0.false; room_len = (c.if-room-ne20000.false, search rules); seated = seated c.args.text.now c.args.owners.now c.args.room.now c.if-room-ne20000.false c.read_lines-p.result _ _ _ _ c.no_wires-map.ensures c.gates_room-gates.ensures c.read_lines-p.ensures.gates_after c.if-p-ne0.false _ c.rest_fault-f.ensures c.if-f-ne0.false }
+pub put_file-requires-clause-few : goal.put_file-requires-clause-few
+put_file-requires-clause-few c =
+    let n = c.new-numbering.ensures in
+    limits c.args.text.now c.args.owners.now c.args.room.now c.if-room-ne20000.false _ n.map n.gates n.text c.in_ok-pass.pass _ c.in_ok-pass.ensures.told _ c.rest_check.ensures c.in_ok-rest_check.ensures
+
+pub put_file-requires-clause-seated : goal.put_file-requires-clause-seated
+put_file-requires-clause-seated c =
+    let n = c.new-numbering.ensures in
+    seated c.args.text.now c.args.owners.now c.args.room.now c.if-room-ne20000.false _ n.map n.gates n.text c.in_ok-pass.pass _ c.in_ok-pass.ensures.told _ c.rest_check.ensures c.in_ok-rest_check.ensures
 
 pub returns : goal.returns
-returns c = filed c.args.text.now c.args.owners.now c.args.room.now c.if-room-ne20000.false c.read_lines-p.result _ _ _ _ c.no_wires-map.ensures c.gates_room-gates.ensures c.read_lines-p.ensures.gates_after c.if-p-ne0.false _ c.rest_fault-f.ensures c.if-f-ne0.false _ _ c.put_file-n.ensures.room_after c.put_file-n.ensures.value
+returns c =
+    let n = c.new-numbering.ensures in
+    filed c.args.text.now c.args.owners.now c.args.room.now c.if-room-ne20000.false _ n.map n.gates n.text c.in_ok-pass.pass _ c.in_ok-pass.ensures.told _ c.rest_check.ensures c.in_ok-rest_check.ensures _ _ c.put_file.ensures.room_after c.put_file.ensures.value

@@ -1,10 +1,17 @@
-use mathlib.Core.Path.{refl, ◌∙◌}
-use Rattle.bristol_checks.proofs.EndLaws.{outs_start, outs_end}
+use mathlib.Core.Path.{◌≡◌}
+use mathlib.Core.Bool.{true, false}
+use Prim.Native.Nat.{ℕ, ◌-◌}
+use lib.Dec.{eqb}
 use borrow.Author.Rules.{rules}
+use native.Mathlib.Omega.{arith}
+use Rattle.std.proofs.lemmas.Iterator.{first_from_Range}
+use Rattle.bristol_wires.specs.Mirror.{entry_of}
+use Rattle.bristol_checks.proofs.EndLaws.{outs_said}
 use Rattle.bristol_checks.proofs.outputs_written.Goals as goal
 
-pub loop-o-init : goal.loop-o-init
-loop-o-init c = (search rules, outs_start _ _ _ _, refl)
-
 pub returns : goal.returns
-returns c = outs_end _ _ _ _ _ c.loop-o-test.false ∙ c.loop-o.invariant.1
+returns c =
+    let n = c.args.numbering.now in
+    let none = λ (w : ℕ). eqb (entry_of n.map n.text.ins w) 0 in
+    let found = first_from_Range _ _ _ _ (λ w. none w ≡ true) (λ w. none w ≡ false) c.find.ensures.ran (λ x q h. search rules) (λ x q h. search rules) in
+    outs_said n.map n.text.ins (n.text.wires - n.text.outs) n.text.wires n.text.outs (omega arith) _ found _ c.is_none.ensures

@@ -1,14 +1,14 @@
 use Rattle.check_circuit.proofs.CheckLaws.{parts_owner, parts_gate, parts_output, parts_good}
 use Rattle.check_circuit.proofs.judge_parts.Goals as goal
 
-pub returns-then-i-c : goal.returns-then-i-c
-returns-then-i-c c = parts_owner _ _ _ c.first_owner-i.ensures c.if-i-c.true
+pub returns-in-Some : goal.returns-in-Some
+returns-in-Some c = parts_owner _ _ _ c.in-Some.ensures
 
-pub returns-then-g-c : goal.returns-then-g-c
-returns-then-g-c c = parts_gate _ _ _ _ c.first_owner-i.ensures c.if-i-c.false c.first_gate-g.ensures c.if-g-c.true
+pub returns-in-Some-first_gate : goal.returns-in-Some-first_gate
+returns-in-Some-first_gate c = parts_gate _ _ _ c.in_default.ensures c.in-Some-first_gate.ensures
 
-pub returns-then-o-c : goal.returns-then-o-c
-returns-then-o-c c = parts_output _ _ _ _ _ c.first_owner-i.ensures c.if-i-c.false c.first_gate-g.ensures c.if-g-c.false c.first_output-o.ensures c.if-o-c.true
+pub returns-in-Some-first_output : goal.returns-in-Some-first_output
+returns-in-Some-first_output c = parts_output _ _ _ c.in_default.ensures c.in_default-first_gate.ensures c.in-Some-first_output.ensures
 
 pub returns : goal.returns
-returns c = parts_good _ _ _ _ _ c.first_owner-i.ensures c.if-i-c.false c.first_gate-g.ensures c.if-g-c.false c.first_output-o.ensures c.if-o-c.false
+returns c = parts_good _ _ c.in_default.ensures c.in_default-first_gate.ensures c.in_default-first_output.ensures

@@ -3,5 +3,6 @@ use Rattle.door_replies.proofs.SizeLaws.{sizes_law}
 use Rattle.door_replies.proofs.sizes.Goals as goal
 
 pub returns : goal.returns
-returns c = c.sizes_from.ensures
-    ∙ sizes_law c.args.file.now c.args.c _ _ _ _ c.requires.opened c.count_ands-a.ensures.0 c.count_owned-s1.ensures.0 c.count_owned-s2.ensures.0 c.count_owned-s3.ensures.0
+returns c =
+    c.sizes_from.ensures
+    ∙ sizes_law _ _ _ _ _ _ c.args.c.now.checked.opened c.count_ands-a.ensures.value c.count_owned-s1.ensures.value c.count_owned-s2.ensures.value c.count_owned-s3.ensures.value

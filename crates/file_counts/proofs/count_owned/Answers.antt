@@ -1,16 +1,15 @@
-use borrow.Author.Rules.{rules}
-use mathlib.Core.Path.{refl}
-use Rattle.theory_sharing.specs.Circuit.{ands, owned}
-use Rattle.theory_calls.specs.File.{circuit, site_of}
-use Rattle.file_counts.proofs.CountLaws.{owned_turn, counted}
+use Rattle.std.proofs.Common.{arith}
+use Rattle.file_counts.proofs.CountLaws.{owned_none, owned_yes, owned_no}
 use Rattle.file_counts.proofs.count_owned.Goals as goal
+use Rattle.file_counts.proofs.count_owned.Goals.{then-input_owned, else-input_owned}
 
 pub loop-k-init : goal.loop-k-init
-unfolding ands owned
-loop-k-init c = (search rules, refl, search rules)
+loop-k-init c = (owned_none _ _, omega arith)
 
 pub loop-k-preserved : goal.loop-k-preserved
-loop-k-preserved c = (search rules, owned_turn _ _ _ _ _ c.loop-k.invariant.1 c.input_owned-t.ensures.0, search rules)
-
-pub returns : goal.returns
-returns c = counted (owned (circuit c.args.file.now).owner (site_of c.args.site)) _ _ _ c.loop-k.invariant.1 c.loop-k.invariant.0 c.loop-k-test.false c.loop-k.invariant.2
+loop-k-preserved c =
+    let i = c.loop-k.invariant in
+    elim c.if-input_owned.branch [
+      | then-input_owned w ↦ rw (w.count-is) (owned_yes _ _ _ _ _ i.0 c.input_owned.ensures w.if-input_owned.true, omega (arith, i.1))
+      | else-input_owned w ↦ rw (w.count-is) (owned_no _ _ _ _ _ i.0 c.input_owned.ensures w.if-input_owned.false, omega (arith, i.1))
+    ]

@@ -1,32 +1,31 @@
-use borrow.Author.Rules.{rules}
 use borrow.Author.Tests.{eq-eqb, ne_eqb}
 use Rattle.file_header.specs.Mirror.{fields_judged}
 use Rattle.file_header.proofs.judge_fields.Goals as goal
 
-pub returns-then-n-i : goal.returns-then-n-i
+pub returns-then-f-clause-value : goal.returns-then-f-clause-value
 unfolding fields_judged
-returns-then-n-i c = record { value = simp (ne_eqb _ _ c.if-n-i.true); fine = tt }
+returns-then-f-clause-value c = simp (ne_eqb _ _ c.if-f.true)
 
-pub returns-then-len-whole : goal.returns-then-len-whole
+pub returns-then-len-f-clause-value : goal.returns-then-len-f-clause-value
 unfolding fields_judged
-returns-then-len-whole c = record { value = simp (eq-eqb _ _ c.if-n-i.false, ne_eqb _ _ c.if-len-whole.true); fine = tt }
+returns-then-len-f-clause-value c = simp (eq-eqb _ _ c.if-f.false, ne_eqb _ _ c.if-len-f.true)
 
-pub returns-then-p-ne32 : goal.returns-then-p-ne32
+pub returns-then-f-ne32-clause-value : goal.returns-then-f-ne32-clause-value
 unfolding fields_judged
-returns-then-p-ne32 c = record { value = simp (eq-eqb _ _ c.if-n-i.false, eq-eqb _ _ c.if-len-whole.false, ne_eqb _ _ c.if-p-ne32.true); fine = tt }
+returns-then-f-ne32-clause-value c = simp (eq-eqb _ _ c.if-f.false, eq-eqb _ _ c.if-len-f.false, ne_eqb _ _ c.if-f-ne32.true)
 
-pub returns-then-q-i : goal.returns-then-q-i
+pub returns-then-f-2-clause-value : goal.returns-then-f-2-clause-value
 unfolding fields_judged
-returns-then-q-i c = record { value = simp (eq-eqb _ _ c.if-n-i.false, eq-eqb _ _ c.if-len-whole.false, eq-eqb _ _ c.if-p-ne32.false, ne_eqb _ _ c.if-q-i.true); fine = tt }
+returns-then-f-2-clause-value c = simp (eq-eqb _ _ c.if-f.false, eq-eqb _ _ c.if-len-f.false, eq-eqb _ _ c.if-f-ne32.false, ne_eqb _ _ c.if-f-2.true)
 
-pub returns-then-r-i : goal.returns-then-r-i
+pub returns-then-f-3-clause-value : goal.returns-then-f-3-clause-value
 unfolding fields_judged
-returns-then-r-i c = record { value = simp (eq-eqb _ _ c.if-n-i.false, eq-eqb _ _ c.if-len-whole.false, eq-eqb _ _ c.if-p-ne32.false, eq-eqb _ _ c.if-q-i.false, ne_eqb _ _ c.if-r-i.true); fine = tt }
+returns-then-f-3-clause-value c = simp (eq-eqb _ _ c.if-f.false, eq-eqb _ _ c.if-len-f.false, eq-eqb _ _ c.if-f-ne32.false, eq-eqb _ _ c.if-f-2.false, ne_eqb _ _ c.if-f-3.true)
 
-pub returns-then-z-ne0 : goal.returns-then-z-ne0
+pub returns-then-f-ne0-clause-value : goal.returns-then-f-ne0-clause-value
 unfolding fields_judged
-returns-then-z-ne0 c = record { value = simp (eq-eqb _ _ c.if-n-i.false, eq-eqb _ _ c.if-len-whole.false, eq-eqb _ _ c.if-p-ne32.false, eq-eqb _ _ c.if-q-i.false, eq-eqb _ _ c.if-r-i.false, ne_eqb _ _ c.if-z-ne0.true); fine = tt }
+returns-then-f-ne0-clause-value c = simp (eq-eqb _ _ c.if-f.false, eq-eqb _ _ c.if-len-f.false, eq-eqb _ _ c.if-f-ne32.false, eq-eqb _ _ c.if-f-2.false, eq-eqb _ _ c.if-f-3.false, ne_eqb _ _ c.if-f-ne0.true)
 
-pub returns : goal.returns
+pub returns-clause-value : goal.returns-clause-value
 unfolding fields_judged
-returns c = record { value = simp (eq-eqb _ _ c.if-n-i.false, eq-eqb _ _ c.if-len-whole.false, eq-eqb _ _ c.if-p-ne32.false, eq-eqb _ _ c.if-q-i.false, eq-eqb _ _ c.if-r-i.false, eq-eqb _ _ c.if-z-ne0.false); fine = search rules }
+returns-clause-value c = simp (eq-eqb _ _ c.if-f.false, eq-eqb _ _ c.if-len-f.false, eq-eqb _ _ c.if-f-ne32.false, eq-eqb _ _ c.if-f-2.false, eq-eqb _ _ c.if-f-3.false, eq-eqb _ _ c.if-f-ne0.false)

@@ -1,12 +1,13 @@
-use Rattle.file_header.proofs.OpenLaws.{opened_from}
-use Rattle.file_reader.proofs.ReadLaws.{output_out, output_in}
+use Rattle.std.proofs.Common.{sym}
+use Rattle.std.proofs.lemmas.Result.{err_from_is_err_and}
+use Rattle.file_parts.proofs.ReaderLaws.{output_refused}
+use Rattle.file_reader.proofs.ReadLaws.{output_in}
 use Rattle.file_reader.proofs.output_of.Goals as goal
 
-pub returns-in_default : goal.returns-in_default
-returns-in_default c = output_out _ _ _ _ _ _ c.read_header-h.ensures.value c.in_default.is c.output_refused.ensures
-
-pub output_with-requires : goal.output_with-requires
-output_with-requires c = opened_from _ _ _ c.in-Good.is c.read_header-h.ensures.opened
+pub returns-in_err-counts : goal.returns-in_err-counts
+returns-in_err-counts c =
+    let p = err_from_is_err_and c.from_residual.result c.from_residual.ensures.1 in
+    rw (p.1, p.2) (output_refused _ _ _ (sym c.in_err-counts.ensures.value))
 
 pub returns : goal.returns
-returns c = output_in c.read_header-h.result _ _ _ _ c.read_header-h.ensures.value c.read_header-h.ensures.opened c.in-Good.is c.output_with.ensures
+returns c = output_in _ _ _ c.in_ok-counts.ensures.value c.in_ok-counts.ensures.opened _ c.output.ensures

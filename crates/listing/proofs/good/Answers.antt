@@ -4,7 +4,7 @@ use Rattle.listing.proofs.CleanLaws.{outputs_fit}
 use Rattle.listing.proofs.good.Goals as goal
 
 pub slice_bounds-tell-end : goal.slice_bounds-tell-end
-slice_bounds-tell-end c = sym (length-take-le _ _ (outputs_fit _ _ _ _ _ c.requires.fit c.outputs_room-opened.result c.outputs_room-opened.ensures))
+slice_bounds-tell-end c = sym (length-take-le _ _ (outputs_fit _ _ _ c.requires.fit c.zeros-opened.result c.zeros-opened.ensures.len))
 
-pub tell-requires : goal.tell-requires
-tell-requires c = record { fit = c.requires.fit; outs_len = (length-take-le _ _ (outputs_fit _ _ _ _ _ c.requires.fit c.outputs_room-opened.result c.outputs_room-opened.ensures), c.requires.in_bounds) }
+pub tell-requires-clause-outs_len : goal.tell-requires-clause-outs_len
+tell-requires-clause-outs_len c = length-take-le _ _ (outputs_fit _ _ _ c.requires.fit c.zeros-opened.result c.zeros-opened.ensures.len)

@@ -1,20 +1,18 @@
 use mathlib.Core.Path.{◌∙◌}
-use native.Mathlib.Omega.{arith}
+use Rattle.std.proofs.lemmas.Result.{err_from_is_err_and}
 use Rattle.listing.proofs.PartLaws.{slices_told, buffer_told, good_told, fit}
 use Rattle.listing.proofs.list_opened.Goals as goal
 
-pub returns-then-f-ne0 : goal.returns-then-f-ne0
-returns-then-f-ne0 c = slices_told _ _ _ _ _ c.requires _ c.slices_fault-f.ensures c.if-f-ne0.true
+pub returns-in_err-slices : goal.returns-in_err-slices
+returns-in_err-slices c =
+    let p = err_from_is_err_and c.from_residual.result c.from_residual.ensures.1 in
+    rw (p.1, p.2) (slices_told _ _ _ _ c.args.c.now.checked.passes _ c.in_err-slices.ensures)
 
 pub returns-then-text-ne2624 : goal.returns-then-text-ne2624
-returns-then-text-ne2624 c = buffer_told _ _ _ _ _ c.requires _ c.slices_fault-f.ensures c.if-f-ne0.false c.if-text-ne2624.true
+returns-then-text-ne2624 c = buffer_told _ _ _ _ c.args.c.now.checked.passes c.in_ok-slices.ensures c.if-text-ne2624.true
 
-pub good-requires : goal.good-requires
-good-requires c =
-    let a = c.count_ands-a.ensures in
-    let l = c.if-text-ne2624.false in record { fit = fit _ _ _ c.args.text.now _ c.requires _ c.slices_fault-f.ensures c.if-f-ne0.false _ c.count_ands-a.ensures.0 c.count_ands-a.ensures.1; in_bounds = omega arith }
+pub good-requires-clause-fit : goal.good-requires-clause-fit
+good-requires-clause-fit c = fit _ _ _ c.in_ok-slices.ensures
 
 pub returns : goal.returns
-returns c =
-    c.good.ensures
-    ∙ good_told _ _ _ _ _ c.requires _ c.slices_fault-f.ensures c.if-f-ne0.false c.if-text-ne2624.false
+returns c = c.good.ensures ∙ good_told _ _ _ _ c.args.c.now.checked.passes c.in_ok-slices.ensures c.if-text-ne2624.false

@@ -1,17 +1,16 @@
-use native.Mathlib.Omega.{arith}
-use Rattle.check_slices.proofs.BitsLaws.{bits_long}
+use Rattle.std.proofs.Common.{sym, ◌∙◌}
+use Rattle.check_slices.proofs.BitsLaws.{bits_right}
 use Rattle.plain.proofs.PlainCall.{inputs_stop, buffer_stop, accepted_plain}
 use Rattle.plain.proofs.plain_opened.Goals as goal
 
-pub returns-then-x-c : goal.returns-then-x-c
-returns-then-x-c c = inputs_stop _ _ _ _ c.requires _ c.bits_fault-x.ensures c.if-x-c.true
+pub returns-in-Some : goal.returns-in-Some
+returns-in-Some c = inputs_stop _ _ _ _ c.args.c.now.checked _ c.in-Some.ensures
 
-pub returns-then-values-c : goal.returns-then-values-c
-returns-then-values-c c = buffer_stop _ _ _ _ c.requires _ c.bits_fault-x.ensures c.if-x-c.false c.if-values-c.true
+pub returns-then-values-wires : goal.returns-then-values-wires
+returns-then-values-wires c = buffer_stop _ _ _ _ c.args.c.now.checked c.in_default.ensures (λ e. c.if-values-wires.true (e ∙ sym c.wires.ensures.0))
 
-pub values_pass-requires : goal.values_pass-requires
-values_pass-requires c =
-    let l = c.if-x-c.false in let w = c.if-values-c.false in record { checked = (c.requires, bits_long c.args.inputs.now _ _ c.bits_fault-x.ensures (omega arith)); values_len = omega arith }
+pub values_pass-requires-clause-inputs_len : goal.values_pass-requires-clause-inputs_len
+values_pass-requires-clause-inputs_len c = bits_right c.args.inputs.now _ c.in_default.ensures
 
 pub returns : goal.returns
-returns c = accepted_plain _ _ _ _ c.requires _ c.bits_fault-x.ensures c.if-x-c.false c.if-values-c.false _ c.values_pass.ensures
+returns c = accepted_plain _ _ _ _ c.args.c.now.checked c.in_default.ensures (c.if-values-wires.false ∙ c.wires.ensures.0) _ c.values_pass.ensures

@@ -1,9 +1,9 @@
-use Rattle.check_circuit.proofs.FrontLaws.{checked_from, done_circuit}
+use Rattle.std.proofs.lemmas.Result.{err_from_is_err_and}
+use Rattle.check_circuit.proofs.FrontLaws.{done_circuit}
 use Rattle.plain.proofs.PlainCall.{front}
 use Rattle.plain.proofs.plain_values.Goals as goal
 
-pub returns-in_default : goal.returns-in_default
-returns-in_default c = done_circuit _ _ _ _ _ (front _ _ _) _ c.check_file-h.ensures.result_value _ _ _ c.in_default.is c.refused.ensures
-
-pub plain_opened-requires : goal.plain_opened-requires
-plain_opened-requires c = checked_from _ _ _ c.in-Good.is c.check_file-h.ensures.checked
+pub returns-in_err-counts : goal.returns-in_err-counts
+returns-in_err-counts c =
+    let p = err_from_is_err_and c.from_residual.result c.from_residual.ensures.1 in
+    rw (p.1, p.2) (done_circuit _ _ _ _ _ (front _ _ _) _ c.in_err-counts.ensures.value)

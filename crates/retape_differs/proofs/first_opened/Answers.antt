@@ -1,15 +1,10 @@
-use borrow.Author.Rules.{rules}
-use Rattle.theory_sharing.proofs.FirstLaws.{clear_none, found, passed, ended}
+use Rattle.std.proofs.Common.{◌≡◌, rules, true, false}
+use Rattle.std.proofs.lemmas.Iterator.{first_from_Range}
+use Rattle.check_refusal.proofs.FoundLaws.{found_first}
+use Rattle.retape_differs.specs.Mirror.{opened_differs}
 use Rattle.retape_differs.proofs.first_opened.Goals as goal
 
-pub loop-k-init : goal.loop-k-init
-loop-k-init c = (search rules, clear_none _)
-
-pub returns-then-opened_bad : goal.returns-then-opened_bad
-returns-then-opened_bad c = found _ _ _ _ c.loop-k.invariant.1 (search rules) c.opened_bad.ensures c.if-opened_bad.true
-
-pub loop-k-preserved : goal.loop-k-preserved
-loop-k-preserved c = (search rules, passed _ _ _ c.loop-k.invariant.1 c.opened_bad.ensures c.if-opened_bad.false)
-
 pub returns : goal.returns
-returns c = ended _ _ _ c.loop-k.invariant.1 c.loop-k.invariant.0 c.loop-k-test.false
+returns c =
+    let bad = opened_differs c.args.c.now.file.now c.args.c.now.counts.inputs c.args.c.now.counts.gates c.args.room.now in
+    found_first bad _ _ (first_from_Range _ _ _ _ (λ k. bad k ≡ true) (λ k. bad k ≡ false) c.find.ensures.ran (λ x q h. search rules) (λ x q h. search rules))

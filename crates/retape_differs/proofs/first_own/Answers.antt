@@ -1,15 +1,11 @@
-use borrow.Author.Rules.{rules}
-use Rattle.theory_sharing.proofs.FirstLaws.{clear_none, found, passed, ended}
+use Rattle.std.proofs.Common.{◌≡◌, rules, true, false}
+use Rattle.std.proofs.lemmas.Iterator.{first_from_Range}
+use Rattle.check_refusal.proofs.FoundLaws.{found_first}
+use Rattle.check_tests.specs.Seat.{seat}
+use Rattle.retape_differs.specs.Mirror.{own_differs}
 use Rattle.retape_differs.proofs.first_own.Goals as goal
 
-pub loop-k-init : goal.loop-k-init
-loop-k-init c = (search rules, clear_none _)
-
-pub returns-then-own_bad : goal.returns-then-own_bad
-returns-then-own_bad c = found _ _ _ _ c.loop-k.invariant.1 (search rules) c.own_bad.ensures c.if-own_bad.true
-
-pub loop-k-preserved : goal.loop-k-preserved
-loop-k-preserved c = (search rules, passed _ _ _ c.loop-k.invariant.1 c.own_bad.ensures c.if-own_bad.false)
-
 pub returns : goal.returns
-returns c = ended _ _ _ c.loop-k.invariant.1 c.loop-k.invariant.0 c.loop-k-test.false
+returns c =
+    let bad = own_differs c.args.c.now.file.now (seat c.args.site) c.args.inputs.now c.args.second.now in
+    found_first bad _ _ (first_from_Range _ _ _ _ (λ k. bad k ≡ true) (λ k. bad k ≡ false) c.find.ensures.ran (λ x q h. search rules) (λ x q h. search rules))

@@ -1,17 +1,14 @@
-use native.Mathlib.Omega.{arith}
-use Rattle.file_parts.proofs.ReaderLaws.{gate_none}
-use Rattle.file_parts.proofs.CheckedLaws.{gate_is}
-use Rattle.run_passes.proofs.PassLaws.{gate_lower}
+use Rattle.retape_pairs.proofs.PairLaws.{step_done, step_fits}
 use Rattle.retape_pairs.proofs.gate_step.Goals as goal
 
-pub returns-in_default : goal.returns-in_default
-returns-in_default c = absurd (gate_none _ _ _ _ _ _ c.gate_with-r.ensures c.in_default.is c.requires.checked.1)
+pub and_gate-requires-clause-fits : goal.and_gate-requires-clause-fits
+and_gate-requires-clause-fits c = (step_fits _ _ _ _ _ _ c.in-Deal.ensures.is c.requires.fits.0, c.requires.fits.1)
 
-pub kind_step-requires : goal.kind_step-requires
-kind_step-requires c =
-    let p = c.requires in let o = c.requires.checked.0.opened in let f = o.few_inputs in let g = o.few_gates in let k = c.requires.checked.1 in
-    let e = c.gate_with-r.ensures in let q = c.in-Is.is in let is = gate_is _ _ _ _ _ _ _ o e q k in record { room_len = (c.requires.room_len, omega arith); lower = (gate_lower _ _ _ _ _ _ _ c.requires.checked.0 e q k, omega arith); fits = (rw (← is) at c.requires.fits.0, c.requires.fits.1) }
+pub returns-in-Add : goal.returns-in-Add
+returns-in-Add c = step_done _ _ _ _ _ _ _ _ _ _ c.in-Add.ensures.is (cc c.wires-n.ensures.0)
 
-pub returns : goal.returns
-returns c =
-    rw (← gate_is _ _ _ _ _ _ _ c.requires.checked.0.opened c.gate_with-r.ensures c.in-Is.is c.requires.checked.1) c.kind_step.ensures
+pub returns-in-Flip : goal.returns-in-Flip
+returns-in-Flip c = step_done _ _ _ _ _ _ _ _ _ _ c.in-Flip.ensures.is (cc c.wires-n.ensures.0)
+
+pub returns-in-Deal : goal.returns-in-Deal
+returns-in-Deal c = step_done _ _ _ _ _ _ _ _ _ _ c.in-Deal.ensures.is (cc c.wires-n.ensures.0)

@@ -1,20 +1,14 @@
-use borrow.Author.Rules.{rules}
-use mathlib.Core.Path.{refl, ◌∙◌}
-use Rattle.file_parts.specs.Loop.{up_to}
-use Rattle.file_parts.proofs.LoopLaws.{none_yet, turn, at_end}
+use Rattle.file_parts.proofs.LoopLaws.{none_yet, turn}
 use Rattle.run_passes.specs.Mirror.{st}
 use Rattle.run_passes.proofs.PassLaws.{room_at}
 use Rattle.run_passes.proofs.gates_pass.Goals as goal
 
 pub loop-k-init : goal.loop-k-init
-loop-k-init c = (search rules, none_yet _ _, refl, refl)
+loop-k-init c = none_yet _ _
 
-pub gate_step-q-requires : goal.gate_step-q-requires
-gate_step-q-requires c = let l = c.loop-k in let t = c.loop-k-test.true in record { checked = (c.requires.checked, t); store_len = l.invariant.2 ∙ c.requires.store_len; room = room_at _ _ _ _ _ _ (st _ _ _) _ _ _ _ t l.invariant.3 c.requires.room l.invariant.1 }
+pub gate_step-pos-requires-clause-room : goal.gate_step-pos-requires-clause-room
+gate_step-pos-requires-clause-room c =
+    let l = c.loop-k in room_at _ _ _ _ _ _ (st _ _ _) _ _ _ _ c.loop-k-test.true l.auto.transcript c.requires.room l.invariant
 
 pub loop-k-preserved : goal.loop-k-preserved
-loop-k-preserved c = let l = c.loop-k in let r = c.gate_step-q in
-    (search rules, turn _ _ _ _ _ l.invariant.1 c.gate_step-q.ensures, c.gate_step-q.auto.store ∙ l.invariant.2, c.gate_step-q.auto.transcript ∙ l.invariant.3)
-
-pub returns : goal.returns
-returns c = let l = c.loop-k in at_end (up_to _ _) _ _ _ l.invariant.1 l.invariant.0 c.loop-k-test.false
+loop-k-preserved c = turn _ _ _ _ _ c.loop-k.invariant c.gate_step-pos.ensures

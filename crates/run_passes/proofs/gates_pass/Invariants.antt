@@ -1,11 +1,9 @@
-use lib.ListN.{length}
-use Prim.Native.Nat.{◌-◌, ◌+◌, ◌≤◌}
+use Prim.Native.Nat.{◌+◌}
 use mathlib.Core.Path.{◌≡◌}
 use Rattle.run_passes.specs.Mirror.{st, gates_on}
 use Rattle.run_passes.proofs.gates_pass.Given as goal
 
 abbrev pub invariant-loop-k : goal.invariant-loop-k
-invariant-loop-k l = (l.k ≤ l.g) × (st l.store l.transcript l.q ≡ gates_on l.file l.tapes l.line l.c.inputs (l.c.inputs + l.c.gates) (st l.initial.store l.initial.transcript l.initial.q) l.k) × (length l.store ≡ length l.initial.store) × (length l.transcript ≡ length l.initial.transcript)
-
-abbrev pub decreases-loop-k : goal.decreases-loop-k
-decreases-loop-k l = l.g - l.k
+invariant-loop-k l =
+    st l.store l.transcript l.pos
+    ≡ gates_on l.c.file.now l.tapes l.line l.c.counts.inputs (l.c.counts.inputs + l.c.counts.gates) (st l.initial.store l.initial.transcript l.initial.pos) l.k

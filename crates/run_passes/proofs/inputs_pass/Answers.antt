@@ -1,21 +1,20 @@
-use borrow.Author.Rules.{rules}
+use mathlib.Core.Path.{◌∙◌}
+use Prim.Native.Nat.{◌<◌}
 use native.Mathlib.Omega.{arith}
-use mathlib.Core.Path.{refl, ◌∙◌}
-use Rattle.file_parts.specs.Loop.{up_to}
-use Rattle.file_parts.proofs.LoopLaws.{none_yet, turn, at_end}
+use Rattle.file_parts.proofs.LoopLaws.{none_yet, turn}
 use Rattle.run_passes.specs.Mirror.{st}
 use Rattle.run_passes.proofs.PassLaws.{in_room_at}
 use Rattle.run_passes.proofs.inputs_pass.Goals as goal
 
 pub loop-k-init : goal.loop-k-init
-loop-k-init c = (search rules, none_yet _ _, refl, refl)
+loop-k-init c = none_yet _ _
 
-pub input_at-q-requires : goal.input_at-q-requires
-input_at-q-requires c = let x = c.args.inputs.now in let p = c.requires in let l = c.loop-k in let t = c.loop-k-test.true in let rest = in_room_at _ x _ _ _ _ (st _ _ _) _ _ _ _ t l.invariant.3 c.requires.in_room l.invariant.1 in record { checked = (c.requires.checked.0, t, omega (arith, t, c.requires.checked.1)); store_len = l.invariant.2 ∙ c.requires.store_len; t1_bound = rest.0; pos_in_bounds = rest.1 }
+pub input_step-pos-requires : goal.input_step-pos-requires
+input_step-pos-requires c =
+    let a = c.args in
+    let h : c.loop-k.k < a.c.now.counts.inputs = omega arith in
+    let r = in_room_at _ a.inputs.now _ _ _ _ (st _ _ _) _ _ _ _ h c.loop-k.auto.transcript c.requires.in_room c.loop-k.invariant in
+    record { k_lt_inputs = h; store_len = c.loop-k.auto.store ∙ c.requires.store_len; small = r.0; room = r.1 }
 
 pub loop-k-preserved : goal.loop-k-preserved
-loop-k-preserved c = let l = c.loop-k in let r = c.input_at-q in
-    (search rules, turn _ _ _ _ _ l.invariant.1 c.input_at-q.ensures, c.input_at-q.auto.store ∙ l.invariant.2, c.input_at-q.auto.transcript ∙ l.invariant.3)
-
-pub returns : goal.returns
-returns c = let l = c.loop-k in at_end (up_to _ _) _ _ _ l.invariant.1 l.invariant.0 c.loop-k-test.false
+loop-k-preserved c = turn _ _ _ _ _ c.loop-k.invariant c.input_step-pos.ensures

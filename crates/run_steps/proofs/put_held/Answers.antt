@@ -1,7 +1,7 @@
-use Rattle.run_steps.specs.Mirror.{at_sites, on_part, put_held}
-use mathlib.Core.Path.{ap, ◌∙◌}
+use Rattle.run_steps.specs.Mirror.{put_held}
+use Rattle.run_steps.proofs.MirrorLaws.{parts_back}
 use Rattle.run_steps.proofs.put_held.Goals as goal
 
 pub returns : goal.returns
-unfolding put_held at_sites
-returns c = c.put3.ensures ∙ ap (on_part _ _ _) (c.put2.ensures ∙ ap (on_part _ _ _) c.put1.ensures)
+unfolding put_held
+returns c = parts_back _ _ _ _ _ _ _ _ c.put_pair.ensures c.put_pair-2.ensures c.put_pair-3.ensures

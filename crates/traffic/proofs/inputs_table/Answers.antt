@@ -1,16 +1,17 @@
-use borrow.Author.Rules.{rules}
+use native.Mathlib.Omega.{arith}
 use Rattle.traffic.specs.Mirror.{input_steps}
-use Rattle.traffic.proofs.TrafficCall.{input_few, under_sums, sums_none, sums_turn, sums_end}
+use Rattle.traffic.proofs.TrafficCall.{input_few, under_sums, under_input, input_sum, sums_none, sums_turn}
 use Rattle.traffic.proofs.inputs_table.Goals as goal
 
 pub loop-k-init : goal.loop-k-init
-loop-k-init c = (search rules, sums_none _)
+loop-k-init c = sums_none _
 
-pub input_step-u-requires : goal.input_step-u-requires
-input_step-u-requires c = record { opened = search rules; under = under_sums (input_steps c.args.file.now) (input_few c.args.file.now) _ _ _ c.loop-k.invariant.1 (search rules) }
+pub added-more-requires : goal.added-more-requires
+added-more-requires c =
+    let f = c.args.c.now.file.now in
+    (under_sums (input_steps f) (input_few f) _ _ _ c.loop-k.invariant (omega (arith, c.loop-k-test.true, c.args.c.now.checked.opened.few_inputs)), under_input _ _ c.input_adds-adds.ensures)
 
 pub loop-k-preserved : goal.loop-k-preserved
-loop-k-preserved c = (search rules, sums_turn (input_steps c.args.file.now) _ _ _ c.loop-k.invariant.1 c.input_step-u.ensures)
-
-pub returns : goal.returns
-returns c = sums_end (input_steps c.args.file.now) _ _ _ c.loop-k.invariant.1 c.loop-k.invariant.0 c.loop-k-test.false
+loop-k-preserved c =
+    sums_turn (input_steps c.args.c.now.file.now) _ _ _ c.loop-k.invariant
+    (input_sum _ _ _ _ _ _ c.owner.ensures.is c.input_adds-adds.ensures c.added-more.ensures)

@@ -1,13 +1,26 @@
-use Rattle.check_circuit.proofs.FrontLaws.{checked_from}
-use Rattle.traffic.proofs.TrafficCall.{numbers_are, zeros_are, table_is}
+use Rattle.std.proofs.Common.{refl}
+use Rattle.theory_calls.specs.Answer.{number_of, place_of}
+use Rattle.traffic.proofs.TrafficCall.{traffic_refused, traffic_good, table_is, number_is, place_is}
 use Rattle.traffic.proofs.traffic_of.Goals as goal
 
-pub returns-in_default : goal.returns-in_default
-returns-in_default c = let rest = numbers_are _ _ _ c.check_file-h.ensures.result_value c.check_file-h.ensures.checked c.refusal_of-r.ensures in record { value = zeros_are _ _ _ _ c.check_file-h.ensures.result_value c.in_default.is; number_after = rest.0; place_after = rest.1 }
+pub returns-in-Ok-clause-value : goal.returns-in-Ok-clause-value
+returns-in-Ok-clause-value c = table_is _ _ (traffic_good _ _ c.in-Ok.ensures.checked.passes c.whole_table.ensures)
 
-pub whole_table-requires : goal.whole_table-requires
-whole_table-requires c = checked_from c.check_file-h.result _ _ c.in-Good.is c.check_file-h.ensures.checked
+pub returns-in-Ok-clause-number_after : goal.returns-in-Ok-clause-number_after
+unfolding number_of
+returns-in-Ok-clause-number_after c = number_is _ _ (traffic_good _ _ c.in-Ok.ensures.checked.passes c.whole_table.ensures) _ refl
 
-pub returns : goal.returns
-returns c =
-    let k = checked_from c.check_file-h.result _ _ c.in-Good.is c.check_file-h.ensures.checked in let rest = numbers_are _ _ _ c.check_file-h.ensures.result_value c.check_file-h.ensures.checked c.refusal_of-r.ensures in record { value = table_is _ _ k.passes c.whole_table.ensures; number_after = rest.0; place_after = rest.1 }
+pub returns-in-Ok-clause-place_after : goal.returns-in-Ok-clause-place_after
+unfolding place_of
+returns-in-Ok-clause-place_after c = place_is _ _ (traffic_good _ _ c.in-Ok.ensures.checked.passes c.whole_table.ensures) _ refl
+
+pub returns-in-Err-clause-value : goal.returns-in-Err-clause-value
+returns-in-Err-clause-value c = table_is _ _ (traffic_refused _ _ c.in-Err.ensures.value)
+
+pub returns-in-Err-clause-number_after : goal.returns-in-Err-clause-number_after
+unfolding number_of
+returns-in-Err-clause-number_after c = number_is _ _ (traffic_refused _ _ c.in-Err.ensures.value) _ c.number.ensures
+
+pub returns-in-Err-clause-place_after : goal.returns-in-Err-clause-place_after
+unfolding place_of
+returns-in-Err-clause-place_after c = place_is _ _ (traffic_refused _ _ c.in-Err.ensures.value) _ c.place.ensures

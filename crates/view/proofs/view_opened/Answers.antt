@@ -1,16 +1,26 @@
-use Rattle.check_given.proofs.GivenLaws.{found_no, found_yes}
+use Rattle.std.proofs.Common.{sym, ap, subst, ◌∙◌, length}
+use Rattle.std.proofs.lemmas.Result.{err_from_is_err_and}
+use Rattle.theory_sharing.specs.Sites.{Site}
+use Rattle.theory_calls.specs.File.{site_of}
+use Rattle.check_tests.proofs.SeatLaws.{seat_is}
 use Rattle.check_circuit.proofs.FrontLaws.{done_given}
+use Rattle.view.specs.Mirror.{Ready}
 use Rattle.view.proofs.ViewCall.{front, ready, accepted_view}
 use Rattle.view.proofs.view_opened.Goals as goal
 
-pub returns-then-f-ne0 : goal.returns-then-f-ne0
-returns-then-f-ne0 c = done_given _ _ _ _ _ (front _ _ _ _ _ _) c.requires.passes _ _ (found_no _ _ c.given_fault-f.ensures c.if-f-ne0.true)
+pub returns-in_err-seat : goal.returns-in_err-seat
+returns-in_err-seat c =
+    let p = err_from_is_err_and c.from_residual.result c.from_residual.ensures.1 in
+    rw (p.1, p.2) (done_given _ _ _ _ _ (front _ _ _ _ _ _) c.args.c.now.checked.passes _ c.in_err-seat.ensures.checks)
 
 pub view_checked-requires : goal.view_checked-requires
 view_checked-requires c =
-    let a = c.args in record { ready = ready a.file.now a.inputs.now a.tapes.now a.site a.view.now a.store.now _ c.requires (found_yes _ _ c.given_fault-f.ensures c.if-f-ne0.false); a_value = c.count_ands-a.ensures }
+    let a = c.args in
+    let r = ready a.c.now.file.now a.inputs.now a.tapes.now a.site a.view.now a.store.now _ a.c.now.checked c.in_ok-seat.ensures.checks in
+    subst (λ (s : Site). Ready a.c.now.file.now a.c.now.counts s (length a.inputs.now) (length a.tapes.now) (length a.view.now) (length a.store.now))
+    (ap site_of c.in_ok-seat.ensures.seated ∙ sym (seat_is c.in_ok-seat.seat)) r
 
 pub returns : goal.returns
 returns c =
-    let r = c.view_checked.ensures in
-    accepted_view _ _ _ _ _ _ _ c.requires (found_yes _ _ c.given_fault-f.ensures c.if-f-ne0.false) _ _ c.view_checked.ensures.view_after c.view_checked.ensures.store_after
+    let v = rw (← c.in_ok-seat.ensures.seated) at c.view_checked.ensures.view_after in
+    accepted_view _ _ _ _ _ _ _ c.args.c.now.checked c.in_ok-seat.ensures.checks _ _ v c.view_checked.ensures.store_after

@@ -1,18 +1,12 @@
-use borrow.Author.Rules.{rules}
-use mathlib.Core.Path.{refl, ◌∙◌}
 use Rattle.file_parts.specs.Loop.{up_to}
 use Rattle.file_parts.proofs.LoopLaws.{none_yet, turn, at_end}
 use Rattle.view_parts.proofs.opened_bits.Goals as goal
 
 pub loop-k-init : goal.loop-k-init
-loop-k-init c = (search rules, none_yet _ _, refl)
-
-pub opened_step-requires : goal.opened_step-requires
-opened_step-requires c = let l = c.loop-k in record { checked = (c.requires.checked, c.loop-k-test.true); store_len = (c.requires.store_len.0, l.invariant.2 ∙ c.requires.store_len.1) }
+loop-k-init c = none_yet _ _
 
 pub loop-k-preserved : goal.loop-k-preserved
-loop-k-preserved c = let l = c.loop-k in let r = c.opened_step in
-    (search rules, turn _ _ _ _ _ l.invariant.1 c.opened_step.ensures, c.opened_step.auto.part ∙ l.invariant.2)
+loop-k-preserved c = turn _ _ _ _ _ c.loop-k.invariant c.opened_step.ensures
 
 pub returns : goal.returns
-returns c = let l = c.loop-k in at_end (up_to _ _) _ _ _ l.invariant.1 l.invariant.0 c.loop-k-test.false
+returns c = let l = c.loop-k in at_end (up_to _ _) _ _ _ l.invariant l.auto.k-end c.loop-k-test.false

@@ -1,0 +1,18 @@
+use mathlib.Core.Path.{sym, ap, ◌∙◌}
+use Rattle.file_header.specs.declared.Counts.{Counts}
+use Rattle.std.specs.Prelude.{Result}
+use Rattle.theory_calls.specs.Answer.{number_of, place_of}
+use Rattle.check_refusal.specs.declared.Refusal.{Refusal}
+use Rattle.file_header.specs.Answers.{header_answer}
+use Rattle.door_answers.specs.Told.{value_of, told_counts}
+use Rattle.door_answers.proofs.CountsAnswerFromResultCountsRefusal.from.Goals as goal
+
+pub returns-in-Ok : goal.returns-in-Ok
+unfolding number_of place_of value_of header_answer
+returns-in-Ok c = sym (ap (λ (x : Result Counts Refusal). told_counts (header_answer x)) c.in-Ok.is)
+
+pub returns-in-Err : goal.returns-in-Err
+unfolding number_of place_of value_of header_answer
+returns-in-Err c =
+    (λ i. record { number = (c.numbers-number.ensures i).0; place = (c.numbers-number.ensures i).1; inputs = 0; gates = 0; outputs = 0 })
+    ∙ sym (ap (λ (x : Result Counts Refusal). told_counts (header_answer x)) c.in-Err.is)

@@ -1,0 +1,18 @@
+use mathlib.Core.Path.{sym, ap, ◌∙◌}
+use Prim.Native.Nat.{ℕ}
+use Rattle.std.specs.Prelude.{Result}
+use Rattle.theory_calls.specs.Answer.{number_of, place_of}
+use Rattle.check_refusal.specs.declared.Refusal.{Refusal}
+use Rattle.file_parts.specs.Answers.{output_answer}
+use Rattle.door_answers.specs.Told.{value_of, told_output}
+use Rattle.door_answers.proofs.OutputAnswerFromResultU16Refusal.from.Goals as goal
+
+pub returns-in-Ok : goal.returns-in-Ok
+unfolding number_of place_of value_of output_answer
+returns-in-Ok c = sym (ap (λ (x : Result ℕ Refusal). told_output (output_answer x)) c.in-Ok.is)
+
+pub returns-in-Err : goal.returns-in-Err
+unfolding number_of place_of value_of output_answer
+returns-in-Err c =
+    (λ i. record { number = (c.numbers-number.ensures i).0; place = (c.numbers-number.ensures i).1; wire = 0 })
+    ∙ sym (ap (λ (x : Result ℕ Refusal). told_output (output_answer x)) c.in-Err.is)

@@ -1,6 +1,0 @@
-use Rattle.door_answers.specs.Told.{told}
-use Rattle.door_answers.proofs.Apart.{tells_by}
-use Rattle.door_runs.proofs.plain_for_c.Goals as goal
-
-pub returns : goal.returns
-returns c = tells_by told _ _ _ c.done_told.ensures c.plain_values-a.ensures
