@@ -1,7 +1,7 @@
 -- What a line does to the map of wires, to our gates and to what is known, as code computes it. No public contract cites these.
 --     entry_of, ours_of, next_entry    one more than our number of a wire; the number; the entry that the next gate gets
 --     fault_of, line_verdict           15, 16, 17 of a line, 0 for none; the verdict on it
---     gate_put                         a gate behind those that are there
+--     kind_of_two, gate_put            1 XOR, 2 AND; a gate behind those that are there
 --     map_after, gates_after, text_after    what a good line leaves
 use Rattle.std.specs.Prelude.{Bool, not, cond, ◌&&◌, List, [], ◌∷◌, ℕ, ◌+◌, ◌*◌, ◌-◌, get_or, set, leb, ltb, eqb, Option, None, Some}
 use Rattle.theory_calls.specs.Checks.{Verdict, accepted, refuses}
@@ -44,6 +44,10 @@ fault_of t m (Some (Eqw x z)) = gate_fault t (two_fault_of m t.ins x x z)
 
 abbrev pub line_verdict : ℕ → ℕ → Verdict
 line_verdict f n = cond (eqb f 0) accepted (refuses f n)
+
+abbrev pub kind_of_two : Says → ℕ
+kind_of_two (Xor x y z) = 1
+kind_of_two _ = 2
 
 unfoldable pub gate_put : ℕ → ℕ → ℕ → ℕ → List ℕ → List ℕ
 gate_put made k a b g = cond (ltb made 3072) (write (6 * made) (gate_bytes ((k, a, b) ∷ [])) g) g

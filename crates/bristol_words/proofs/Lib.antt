@@ -1,4 +1,3 @@
 pub mod PartLaws
 pub mod NextLaws
-pub mod GateLaws
 pub mod NumberLaws

@@ -1,18 +1,20 @@
 // Checks 4 to 6: one test each, the first fault by index, and the whole circuit's check.
 #![tactic(auto)]
 
-ghost use Rattle.std.specs.Prelude.{◌≡◌, ◌<◌};
+ghost use Rattle.std.specs.Prelude.{◌≡◌, ◌<◌, IfOk};
 ghost use Rattle.theory_sharing.specs.First.{first};
 ghost use Rattle.theory_calls.specs.Calls.{Check, answers, does};
 ghost use Rattle.check_refusal.specs.Found.{some_below};
 ghost use Rattle.file_header.specs.Answers.{header_answer};
 ghost use Rattle.check_tests.specs.Mirror.{bad_owner, bad_gate, bad_output};
+ghost use Rattle.check_circuit.specs.Answers.{circuit_answer};
 ghost use Rattle.check_circuit.specs.Mirror.{checked_of};
 ghost use Rattle.file_parts.specs.Checked.{IsChecked};
 
 use check_refusal::Refusal;
 use file_header::Counts;
 use file_parts::OpenFile;
+use file_reader::Circuit;
 
 // 4: an owner not 1 to 3.
 #[tactic(auto, unfolding(check_tests::specs::Mirror::bad_owner))]
@@ -106,4 +108,13 @@ pub fn check_file(file: &[u8]) -> Result<Counts, Refusal>
         return header;
     };
     judge_parts(&OpenFile { file, counts })
+}
+
+// The same, with the circuit for an answer: what a call asks that goes on with it.
+pub fn circuit(file: &[u8]) -> Result<Circuit<'_>, Refusal>
+    ensures value { answers (circuit_answer result) ≡ does (Check file.now) }
+    ensures lent { IfOk result (λ c. c.file.now ≡ file.now) }
+{
+    let counts = check_file(file)?;
+    Ok(Circuit { file, counts })
 }

@@ -1,28 +1,29 @@
 -- The fault of a slice of bits, as the code meets it.
 --     bits_short, bits_long    of a slice that has not its length, and of one that has it
 --     bits_right        where there is no fault the slice has its length
---     sizes_found       the first buffer that has not its length
+--     sizes_found       the first buffer that has not its length;  sizes_bad, sizes_good: 10's verdict by it
 --     under_first       where the largest byte is 0 or 1 there is none above 1
 --     above_found       the first byte above 1, looked for
 -- Assumes nothing.
-use mathlib.Core.Path.{◌≡◌, refl, sym, ap, ◌∙◌}
+use mathlib.Core.Path.{◌≡◌, refl, sym, ap, ◌∙◌, subst}
 use mathlib.Core.Bool.{Bool, true, false, not, cond}
-use mathlib.Core.List.{List}
+use mathlib.Core.List.{List, []}
 use Prim.Native.Nat.{ℕ, suc, ◌+◌, ◌<◌, ◌≤◌}
 use native.Mathlib.Omega.{arith}
-use lib.ListN.{length, get_or, get_or-map}
+use lib.ListN.{length, get_or, length-map, get_or-map}
 use lib.Dec.{leb, ltb, eqb}
 use borrow.Author.Tests.{le-leb, ltb-true, ltb-false}
 use Rattle.std.specs.Prelude.{Option, None, Some, map, position}
 use Rattle.theory_sharing.specs.First.{first}
 use Rattle.theory_sharing.proofs.FirstLaws.{first_none, first_clear}
-use Rattle.theory_calls.specs.Checks.{fault}
+use Rattle.theory_calls.specs.Checks.{row_buffer, fault, accepted, refuses, verdict}
 use Rattle.theory_calls.specs.AtBits.{bits_row}
+use Rattle.theory_calls.proofs.Refusals.{row_refuses, row_passes}
 use Rattle.theory_calls.proofs.RowLaws.{listed_short, listed_bad, listed_sound, bits_clear}
 use Rattle.check_refusal.specs.Found.{some_below}
-use Rattle.check_refusal.proofs.FoundLaws.{some_is, none_is, none_found, position_first}
+use Rattle.check_refusal.proofs.FoundLaws.{some_is, none_is, some_found, none_found, position_first}
 use Rattle.check_tests.specs.Mirror.{above, wrong_size}
-use Rattle.check_slices.specs.Mirror.{Under}
+use Rattle.check_slices.specs.Mirror.{Under, sizes_checks}
 
 above_found : (s : List ℕ) → position (λ b. not (leb b 1)) s ≡ some_below (first (above s) (length s)) (length s)
 unfolding above
@@ -62,3 +63,21 @@ unfolding wrong_size
 sizes_found bs =
     position_first (λ b. not (eqb b.0 b.1)) (0, 0) bs
     ∙ (λ i. some_below (first (λ (k : ℕ). not (eqb (sym (get_or-map (λ b. b.0) bs k (0, 0)) i) (sym (get_or-map (λ b. b.1) bs k (0, 0)) i))) (length bs)) (length bs))
+
+module _ (bs : List (ℕ × ℕ)) where
+  long : length bs ≡ length (map (λ (b : ℕ × ℕ). b.1) bs)
+  long = sym (length-map bs (λ b. b.1))
+
+  same : first (wrong_size (map (λ b. b.0) bs) (map (λ b. b.1) bs)) (length bs) ≡ fault (row_buffer (map (λ b. b.0) bs) (map (λ b. b.1) bs))
+  unfolding fault wrong_size
+  same = λ j. first (λ i. not (eqb (get_or (map (λ b. b.0) bs) i 0) (get_or (map (λ b. b.1) bs) i 0))) (long j)
+
+  pub sizes_bad : (k : ℕ) → Some k ≡ position (λ b. not (eqb b.0 b.1)) bs → refuses 10 k ≡ verdict (sizes_checks bs)
+  sizes_bad k e =
+      let f = some_found k _ _ (e ∙ sizes_found bs) in
+      let h : k < length bs = subst (λ (z : ℕ). z < length bs) (sym f.0) f.1 in
+      row_refuses 10 [] _ k (f.0 ∙ same) (omega (arith, long, h))
+
+  pub sizes_good : ◌≡◌ {A = Option ℕ} None (position (λ b. not (eqb b.0 b.1)) bs) → accepted ≡ verdict (sizes_checks bs)
+  unfolding verdict
+  sizes_good e = let f = none_found _ _ (e ∙ sizes_found bs) in row_passes 10 [] _ _ same (omega (arith, long, f))

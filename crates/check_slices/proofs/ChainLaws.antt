@@ -2,30 +2,27 @@
 --     nothing                    an order of no checks refuses nothing
 --     Left                       ms is left of an order
 --     bits_stop, bits_go         7, 8, 9 or 12 stops at a slice of bits; or goes on
---     sizes_stop, sizes_go       10, at the lengths of buffers
+--     sizes_left, sizes_stop, sizes_go    10, at the lengths of buffers: it is what is left; and stops or goes on
 --     site_stop, site_go         11
 -- Assumes nothing.
 use mathlib.Core.Path.{◌≡◌, refl, sym, ap, ◌∙◌, subst}
 use mathlib.Core.Bool.{Bool, true, false, not}
-use mathlib.Core.List.{List, [], ◌∷◌}
+use mathlib.Core.List.{List, [], ◌∷◌, ◌++◌}
 use Prim.Native.Nat.{ℕ, ◌+◌, ◌<◌}
 use native.Mathlib.Omega.{arith}
-use lib.ListN.{length, get_or, length-map}
-use lib.Dec.{eqb}
-use Rattle.std.specs.Prelude.{Option, None, Some, Result, Ok, Err, map, position}
+use Rattle.std.specs.Prelude.{Option, None, Some, Result, Ok, Err, map}
 use Rattle.theory_sharing.specs.First.{first}
 use Rattle.theory_calls.specs.Checks.{Refusal, refusal, one_to_three, tested, row_buffer, row_site, fault, accepted, refuses, verdict}
 use Rattle.theory_calls.specs.AtBits.{bits_row}
-use Rattle.theory_calls.proofs.Refusals.{row_refuses, row_passes}
+use Rattle.theory_calls.proofs.Refusals.{accepted_passes, verdict_skips, verdict_stays, row_refuses, row_passes}
 use Rattle.check_refusal.specs.declared.Refusal.{Refusal as Refused}
 use Rattle.check_refusal.specs.Number.{number_of, place_of}
 use Rattle.check_refusal.specs.Found.{some_below}
 use Rattle.check_refusal.proofs.FoundLaws.{some_found, none_found}
 use Rattle.check_tests.specs.declared.Site.{Site}
 use Rattle.check_tests.specs.Seat.{seated}
-use Rattle.check_tests.specs.Mirror.{wrong_size}
 use Rattle.check_tests.proofs.SeatLaws.{seated_good, seated_bad}
-use Rattle.check_slices.proofs.BitsLaws.{sizes_found}
+use Rattle.check_slices.specs.Mirror.{sizes_checks}
 
 pub nothing : accepted ≡ verdict []
 unfolding verdict
@@ -47,21 +44,15 @@ module _ (all : List Refusal) where
 
   module _ (cs : List Refusal) (bs : List (ℕ × ℕ)) (lengths wanted : List ℕ) (l : map (λ b. b.0) bs ≡ lengths) (w : map (λ b. b.1) bs ≡ wanted)
       (p : Left (refusal 10 (row_buffer lengths wanted) ∷ cs)) where
-    as_long : length bs ≡ length wanted
-    as_long = sym (length-map bs (λ b. b.1)) ∙ ap length w
+    -- the buffers' own check is the one that is left
+    pub sizes_left : verdict (sizes_checks bs ++ cs) ≡ verdict all
+    sizes_left = (λ j. verdict (refusal 10 (row_buffer (l j) (w j)) ∷ cs)) ∙ p
 
-    sized : first (wrong_size (map (λ b. b.0) bs) (map (λ b. b.1) bs)) (length bs) ≡ fault (row_buffer lengths wanted)
-    unfolding fault wrong_size
-    sized = λ j. first (λ i. not (eqb (get_or (l j) i 0) (get_or (w j) i 0))) (as_long j)
+    pub sizes_stop : (d : Refused) → refuses (number_of d) (place_of d) ≡ verdict (sizes_checks bs) → refuses (number_of d) (place_of d) ≡ verdict all
+    sizes_stop d e = sym (verdict_stays (sizes_checks bs) cs _ _ (sym e)) ∙ sizes_left
 
-    pub sizes_stop : (k : ℕ) → Some k ≡ position (λ b. not (eqb b.0 b.1)) bs → refuses 10 k ≡ verdict all
-    sizes_stop k e =
-        let f = some_found k _ _ (e ∙ sizes_found bs) in
-        let h : k < length bs = subst (λ (z : ℕ). z < length bs) (sym f.0) f.1 in
-        row_refuses 10 cs _ k (f.0 ∙ sized) (omega (arith, as_long, h)) ∙ p
-
-    pub sizes_go : ◌≡◌ {A = Option ℕ} None (position (λ b. not (eqb b.0 b.1)) bs) → Left cs
-    sizes_go e = let f = none_found _ _ (e ∙ sizes_found bs) in row_passes 10 cs _ _ sized (omega (arith, as_long, f)) ∙ p
+    pub sizes_go : accepted ≡ verdict (sizes_checks bs) → Left cs
+    sizes_go e = sym (verdict_skips (sizes_checks bs) cs (accepted_passes (sizes_checks bs) (sym e))) ∙ sizes_left
 
   module _ (cs : List Refusal) (s : ℕ) (p : Left (refusal 11 (row_site s) ∷ cs)) where
     -- the test's value tells the fault

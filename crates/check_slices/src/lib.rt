@@ -2,10 +2,12 @@
 #![tactic(auto)]
 
 ghost use Rattle.std.specs.Prelude.{◌≡◌, ◌+◌, not, length, leb, eqb, position};
-ghost use Rattle.theory_calls.specs.Checks.{fault, row_job};
+ghost use Rattle.theory_calls.specs.Checks.{fault, row_job, verdict};
 ghost use Rattle.theory_calls.specs.AtBits.{bits_row};
-ghost use Rattle.check_refusal.specs.Found.{some_below};
-ghost use Rattle.check_slices.specs.Mirror.{Under};
+ghost use Rattle.check_refusal.specs.Found.{some_below, found};
+ghost use Rattle.check_slices.specs.Mirror.{Under, Faults, sizes_checks};
+
+use check_refusal::Refusal;
 
 // No byte of the slice is above the answer. Nothing stops this loop in the middle, so that a compiler may take many bytes at a time.
 fn largest(s: &[u8]) -> u8
@@ -38,8 +40,19 @@ pub fn bits_fault(s: &[u8], want: usize) -> Option<usize>
     first_above(s)
 }
 
-// 10: the first buffer that has not its length, by number; of each its length and the one that it should have.
-pub fn first_size(buffers: &[(usize, usize)]) -> Option<usize>
+// The same as a refusal. Which of the four it is, the caller lends.
+pub fn bits<F: Fn(usize) -> Refusal>(s: &[u8], want: usize, refusal: F) -> Result<(), Refusal>
+    requires { F.IsAlwaysCallable refusal }
+    ensures { Faults (F.post refusal) s.now want result }
+{
+    match bits_fault(s, want) {
+        Some(place) => Err(refusal(place)),
+        None => Ok(()),
+    }
+}
+
+// The first buffer that has not its length, by number.
+fn wrong_size(buffers: &[(usize, usize)]) -> Option<usize>
     ensures { result ≡ position (λ b. not (eqb b.0 b.1)) buffers.now }
 {
     buffers
@@ -47,7 +60,17 @@ pub fn first_size(buffers: &[(usize, usize)]) -> Option<usize>
         .position(|b| check_tests::size_wrong(b.0, b.1))
 }
 
-// 14: the place of the fault of a job's header.
+// 10: every buffer has its length; of each its length and the one that it should have.
+pub fn first_size(buffers: &[(usize, usize)]) -> Result<(), Refusal>
+    ensures { found result ≡ verdict (sizes_checks buffers.now) }
+{
+    match wrong_size(buffers) {
+        Some(buffer) => Err(Refusal::Buffer(buffer)),
+        None => Ok(()),
+    }
+}
+
+// 14: the place of the fault of a job's header. No refusal, as the listing alone asks it: a Result here would be one more match on judge_job's answer.
 pub fn job_fault(job: &[u8]) -> Option<usize>
     ensures { result ≡ some_below (fault (row_job job.now)) 13 }
 {

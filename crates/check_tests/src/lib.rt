@@ -35,7 +35,32 @@ impl TryFrom<usize> for Site {
 }
 
 impl Site {
-    ghost use Rattle.check_tests.specs.Seat.{number_of};
+    ghost use Rattle.theory_sharing.specs.Sites.{next};
+    ghost use Rattle.theory_calls.specs.File.{site_of};
+    ghost use Rattle.check_tests.specs.Seat.{seat, number_of};
+
+    // The site that a number stands for, whatever number: any but 1 and 2 is site 3's.
+    #[tactic(auto, unfolding(theory_calls::specs::File::site_of))]
+    pub fn of(number: usize) -> Site
+        ensures { seat result ≡ site_of number }
+    {
+        match number {
+            1 => Site::One,
+            2 => Site::Two,
+            _ => Site::Three,
+        }
+    }
+
+    // "after 3 comes 1"
+    pub fn next(self) -> Site
+        ensures { seat result ≡ next (seat self) }
+    {
+        match self {
+            Site::One => Site::Two,
+            Site::Two => Site::Three,
+            Site::Three => Site::One,
+        }
+    }
 
     // The number that stands for it.
     pub fn number(self) -> u8

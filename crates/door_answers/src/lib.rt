@@ -5,7 +5,6 @@
 ghost use Rattle.std.specs.Prelude.{◌≡◌, ◌≤◌};
 ghost use Rattle.check_refusal.specs.Number.{number_of, place_of};
 ghost use Rattle.door_answers.specs.Told.{nine};
-ghost use Rattle.door_answers.specs.Sizes.{no_sizes};
 ghost use Rattle.door_answers.specs.Mirror.{sizes_from};
 
 use check_refusal::Refusal;
@@ -88,7 +87,7 @@ pub struct FileAnswer {
 
 // The lengths of all slices and buffers that go with a circuit; the view's by site.
 #[repr(C)]
-#[derive(Clone, Copy, Debug, PartialEq, Eq)]
+#[derive(Clone, Copy, Debug, Default, PartialEq, Eq)]
 pub struct SizesAnswer {
     pub number: usize,
     pub place: usize,
@@ -334,21 +333,17 @@ pub fn sizes_from(c: Counts, a: usize, s1: usize, s2: usize, s3: usize) -> Sizes
 }
 
 // A refusal of the circuit: there are no lengths.
-pub fn no_sizes(e: Refusal) -> SizesAnswer
-    ensures { result ≡ no_sizes (number_of e) (place_of e) }
-{
-    let (number, place) = numbers(e);
-    SizesAnswer {
-        number,
-        place,
-        inputs: 0,
-        tapes: 0,
-        line: 0,
-        values: 0,
-        outputs: 0,
-        transcript: 0,
-        store: 0,
-        view: [0; 3],
-        room: 0,
+impl From<Refusal> for SizesAnswer {
+    ghost use Rattle.door_answers.specs.Sizes.{no_sizes};
+
+    ghost from_gives = { λ e a. a ≡ no_sizes (number_of e) (place_of e) };
+
+    fn from(e: Refusal) -> SizesAnswer {
+        let (number, place) = numbers(e);
+        SizesAnswer {
+            number,
+            place,
+            ..SizesAnswer::default()
+        }
     }
 }

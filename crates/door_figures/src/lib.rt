@@ -7,15 +7,14 @@ ghost use Rattle.door_answers.specs.Told.{told_traffic, TellsText};
 ghost use Rattle.door_answers.specs.Sizes.{sized};
 
 use door_answers::{ListingAnswer, SizesAnswer, TrafficAnswer};
-use file_reader::Circuit;
 
 // The lengths of all slices and buffers that go with a circuit: checks 1 to 6, and what the calls' own checks ask for.
 pub fn sizes_for_c(file: &[u8]) -> SizesAnswer
     ensures { result ≡ sized file.now (does (Check file.now)).answer }
 {
-    match check_circuit::check_file(file) {
-        Ok(counts) => door_replies::sizes(&Circuit { file, counts }),
-        Err(e) => door_answers::no_sizes(e),
+    match check_circuit::circuit(file) {
+        Ok(c) => door_replies::sizes(&c),
+        Err(e) => SizesAnswer::from(e),
     }
 }
 

@@ -39,8 +39,8 @@ pub fn sizes(c: &Circuit<'_>) -> SizesAnswer
     ensures { result ≡ sizes_of (circuit c.now.file.now) }
 {
     let a = file_counts::count_ands(c);
-    let s1 = file_counts::count_owned(c, Site::One);
-    let s2 = file_counts::count_owned(c, Site::Two);
-    let s3 = file_counts::count_owned(c, Site::Three);
+    let s1 = file_counts::owned_by(c, Site::One);
+    let s2 = file_counts::owned_by(c, Site::Two);
+    let s3 = file_counts::owned_by(c, Site::Three);
     door_answers::sizes_from(c.counts, a, s1, s2, s3)
 }

@@ -44,6 +44,17 @@ impl<'a> Circuit<'a> {
     ghost use Rattle.theory_calls.specs.File.{circuit, gate_of, owner_at, output_at, site_of};
     ghost use Rattle.file_parts.specs.Mirror.{gate_stored};
 
+    // The file as checks 1 to 3 leave it.
+    fn open(&self) -> OpenFile<'a>
+        ensures file { result.file ≡ self.now.file }
+        ensures counts { result.counts ≡ self.now.counts }
+    {
+        OpenFile {
+            file: self.file,
+            counts: self.counts,
+        }
+    }
+
     // Gate k: an XOR, AND, NOT or OR of lower wires.
     pub fn gate(&self, k: usize) -> Gate
         requires { k < self.now.counts.gates }
@@ -52,11 +63,7 @@ impl<'a> Circuit<'a> {
         ensures known { (1 ≤ result.kind) × (result.kind ≤ 4) }
         ensures lower { (result.first < self.now.counts.inputs + k) × (result.second < self.now.counts.inputs + k) }
     {
-        OpenFile {
-            file: self.file,
-            counts: self.counts,
-        }
-        .gate_at(k)
+        self.open().gate_at(k)
     }
 
     // The owner of input k: 1, 2 or 3, as stored.
@@ -66,11 +73,7 @@ impl<'a> Circuit<'a> {
         ensures is { site_of result ≡ (circuit self.now.file.now).owner k }
         ensures known { (1 ≤ result) × (result ≤ 3) }
     {
-        OpenFile {
-            file: self.file,
-            counts: self.counts,
-        }
-        .owner_at(k)
+        self.open().owner_at(k)
     }
 
     // The wire of output k: one of the circuit's.
@@ -80,11 +83,7 @@ impl<'a> Circuit<'a> {
         ensures is { result ≡ (circuit self.now.file.now).out k }
         ensures below { result < self.now.counts.inputs + self.now.counts.gates }
     {
-        OpenFile {
-            file: self.file,
-            counts: self.counts,
-        }
-        .output_at(k)
+        self.open().output_at(k)
     }
 
     // W: how many wires there are.

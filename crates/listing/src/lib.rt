@@ -78,10 +78,7 @@ pub fn list_opened(
 ) -> Result<usize, Refusal>
     ensures { listed_after result text.new ≡ says c.now.file.now inputs.now tapes.now text.old }
 {
-    let c = Counted {
-        circuit: *c,
-        ands: file_counts::count_ands(c),
-    };
+    let c = Counted::from(*c);
     check_given::slices(&c, inputs, tapes)?;
     if text.len() != 2624 {
         return Err(Refusal::Buffer(0));
@@ -93,8 +90,8 @@ pub fn list_opened(
 fn list(file: &[u8], inputs: &[u8], tapes: &[u8], text: &mut [u8]) -> Result<usize, Refusal>
     ensures { listed_after result text.new ≡ says file.now inputs.now tapes.now text.old }
 {
-    let counts = check_circuit::check_file(file)?;
-    list_opened(&Circuit { file, counts }, inputs, tapes, text)
+    let c = check_circuit::circuit(file)?;
+    list_opened(&c, inputs, tapes, text)
 }
 
 // A job by its offsets: "the parts run each to the next and the last to the end".

@@ -5,9 +5,11 @@
 ghost use Rattle.std.specs.Prelude.{◌≡◌, ℕ, ◌+◌, ◌*◌, ◌<◌, ◌≤◌, ◌++◌, length};
 ghost use Rattle.theory_sharing.specs.Store.{fill};
 ghost use Rattle.theory_calls.specs.Listing.{decimal, word_out, out_lines, refused_text};
+ghost use Rattle.check_refusal.specs.Number.{number_of, place_of};
 ghost use Rattle.file_writer.specs.Mirror.{write};
 ghost use Rattle.listing_text.specs.Mirror.{line_of, counts_of, head_of, lines_of, shown_of, OneDigit};
 
+use check_refusal::Refusal;
 use file_header::Counts;
 
 // A number's digits. It calls itself for all but the last, as the definition does, so that no digit has to be turned round: at most 20 deep.
@@ -17,11 +19,11 @@ pub fn put_decimal(text: &mut [u8], at: usize, n: usize) -> usize
     ensures value { result ≡ at + length (decimal n) }
 {
     if n <= 9 {
-        text[at] = 48 + n as u8;
+        text[at] = b'0' + n as u8;
         return at + 1;
     }
     let end = put_decimal(text, at, n / 10);
-    text[end] = 48 + (n % 10) as u8;
+    text[end] = b'0' + (n % 10) as u8;
     end + 1
 }
 
@@ -47,13 +49,13 @@ fn put_line(text: &mut [u8], at: usize, word: &[u8], n: usize, p: usize) -> usiz
     file_writer::put_bytes(text, b, b"\n")
 }
 
-// "A refusal prints only `refused N P`". 50 bytes hold any two numbers.
-pub fn refused_text(text: &mut [u8], number: usize, place: usize) -> usize
+// "A refusal prints only `refused N P`". 50 bytes hold any two numbers. Not by Refusal's Display: no clause of that says which bytes it writes.
+pub fn refused_text(text: &mut [u8], e: Refusal) -> usize
     requires { 50 ≤ length text.old }
-    ensures text_after { text.new ≡ fill text.old (refused_text number place) }
-    ensures value { result ≡ length (refused_text number place) }
+    ensures text_after { text.new ≡ fill text.old (refused_text (number_of e) (place_of e)) }
+    ensures value { result ≡ length (refused_text (number_of e) (place_of e)) }
 {
-    put_line(text, 0, b"refused ", number, place)
+    put_line(text, 0, b"refused ", e.number(), e.place())
 }
 
 // An output's line. It stands alone because a byte string in a loop would be one more thing to carry through its turns.
@@ -66,7 +68,7 @@ fn out_line(text: &mut [u8], at: usize, o: usize, bit: u8) -> usize
     put_line(text, at, b"out ", o, bit as usize)
 }
 
-// "one line per output, its number and bit"
+// "one line per output, its number and bit". By number and not by chunks of three bytes: the definition goes by number, and so does its proof.
 fn out_lines(text: &mut [u8], at: usize, outs: &[u8], n: usize) -> usize
     requires { (at + 10 * n ≤ length text.old) × (n ≤ 256) × (length outs.now ≡ 3 * n) × OneDigit outs.now n }
     ensures text_after { text.new ≡ write at (out_lines (shown_of outs.now) n) text.old }

@@ -21,6 +21,7 @@ use Rattle.check_refusal.specs.declared.Refusal.TheVariants.{Inputs, Buffer}
 use Rattle.check_refusal.specs.Found.{some_below}
 use Rattle.file_header.specs.declared.Counts.{Counts}
 use Rattle.file_parts.specs.Checked.{Checked}
+use Rattle.check_slices.proofs.BitsLaws.{sizes_bad, sizes_good}
 use Rattle.check_slices.proofs.ChainLaws.{nothing, Left, bits_stop, bits_go, sizes_stop, sizes_go}
 use Rattle.check_circuit.specs.Answers.{done_answer, done_after}
 use Rattle.check_circuit.proofs.FrontLaws.{Front, done_given, given_passed}
@@ -54,10 +55,10 @@ module _ (f x vs : List ℕ) where
       buffers = (length vs, want) ∷ []
 
       pub buffer_stop : (length vs ≡ want → ⊥) → done_after (Err (Buffer 0)) (vs ∷ []) ≡ does (Plain f x vs)
-      buffer_stop w = done_given _ _ _ _ _ front k.passes (Buffer 0) (sizes_stop Two [] buffers _ _ refl wanted past_7 0 (rw (ne_eqb _ _ w)))
+      buffer_stop w = done_given _ _ _ _ _ front k.passes (Buffer 0) (sizes_stop Two [] buffers _ _ refl wanted past_7 (Buffer 0) (sizes_bad buffers 0 (rw (ne_eqb _ _ w))))
 
       go_on : length vs ≡ want → accepted ≡ verdict Two
-      go_on w = nothing ∙ sizes_go Two [] buffers _ _ refl wanted past_7 (rw (eq-eqb _ _ w))
+      go_on w = nothing ∙ sizes_go Two [] buffers _ _ refl wanted past_7 (sizes_good buffers (rw (eq-eqb _ _ w)))
 
       pub accepted_plain : length vs ≡ want → (vs' : List ℕ) → vs' ≡ plain (circuit f) x → done_after (Ok tt) (vs' ∷ []) ≡ does (Plain f x vs)
       unfolding done_answer PlainOf

@@ -77,9 +77,7 @@ pub fn values_pass(c: &Circuit<'_>, inputs: &[u8], values: &mut [u8])
 pub fn plain_opened(c: &Circuit<'_>, inputs: &[u8], values: &mut [u8]) -> Result<(), Refusal>
     ensures { done_after result (values.new ∷ []) ≡ does (Plain c.now.file.now inputs.now values.old) }
 {
-    if let Some(place) = check_slices::bits_fault(inputs, c.counts.inputs) {
-        return Err(Refusal::Inputs(place));
-    }
+    check_slices::bits(inputs, c.counts.inputs, Refusal::Inputs)?;
     if values.len() != c.wires() {
         return Err(Refusal::Buffer(0));
     }
@@ -91,6 +89,6 @@ pub fn plain_opened(c: &Circuit<'_>, inputs: &[u8], values: &mut [u8]) -> Result
 pub fn plain_values(file: &[u8], inputs: &[u8], values: &mut [u8]) -> Result<(), Refusal>
     ensures { done_after result (values.new ∷ []) ≡ does (Plain file.now inputs.now values.old) }
 {
-    let counts = check_circuit::check_file(file)?;
-    plain_opened(&Circuit { file, counts }, inputs, values)
+    let c = check_circuit::circuit(file)?;
+    plain_opened(&c, inputs, values)
 }

@@ -34,12 +34,8 @@ fn given(
         (fresh, 2 * counts.inputs + 6 * c.ands),
         (room, 4 * (counts.inputs + counts.gates)),
     ];
-    if let Some(buffer) = check_slices::first_size(&buffers) {
-        return Err(Refusal::Buffer(buffer));
-    }
-    if let Some(place) = check_slices::bits_fault(second, counts.inputs) {
-        return Err(Refusal::Second(place));
-    }
+    check_slices::first_size(&buffers)?;
+    check_slices::bits(second, counts.inputs, Refusal::Second)?;
     Ok(seat)
 }
 
@@ -80,10 +76,7 @@ pub fn retape_opened(
     ensures { done_after result (fresh.new ∷ room.new ∷ [])
         ≡ does (Retape c.now.file.now inputs.now tapes.now second.now site fresh.old room.old) }
 {
-    let counted = Counted {
-        circuit: *c,
-        ands: file_counts::count_ands(c),
-    };
+    let counted = Counted::from(*c);
     let seat = given(
         &counted,
         inputs,
@@ -110,14 +103,6 @@ pub fn retape(
     ensures { done_after result (fresh.new ∷ room.new ∷ [])
         ≡ does (Retape file.now inputs.now tapes.now second.now site fresh.old room.old) }
 {
-    let counts = check_circuit::check_file(file)?;
-    retape_opened(
-        &Circuit { file, counts },
-        inputs,
-        tapes,
-        second,
-        site,
-        fresh,
-        room,
-    )
+    let c = check_circuit::circuit(file)?;
+    retape_opened(&c, inputs, tapes, second, site, fresh, room)
 }

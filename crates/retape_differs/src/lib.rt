@@ -19,7 +19,7 @@ fn own_bad(c: &Circuit<'_>, site: Site, inputs: &[u8], second: &[u8], k: usize) 
     requires { (k < c.now.counts.inputs) × (length inputs.now ≡ c.now.counts.inputs) × (length second.now ≡ c.now.counts.inputs) }
     ensures { result ≡ own_differs c.now.file.now (seat site) inputs.now second.now k }
 {
-    file_counts::input_owned(c, site, k) && inputs[k] != second[k]
+    file_counts::owns(c, site, k) && inputs[k] != second[k]
 }
 
 // An output whose plain value differs.

@@ -37,7 +37,7 @@ fn input_step(
         (is (seat site) ((circuit c.now.file.now).owner k)) (is (seat after) ((circuit c.now.file.now).owner k)) (st room.old moved.old at) }
 {
     let n = c.wires();
-    if file_counts::input_owned(c, site, k) {
+    if file_counts::owns(c, site, k) {
         let d = run_messages::deal(tapes.own, at.own, x);
         retape_pairs::put_in(room, n, k, d.kept());
         return Places {
@@ -45,7 +45,7 @@ fn input_step(
             ..at
         };
     }
-    if file_counts::input_owned(c, after, k) {
+    if file_counts::owns(c, after, k) {
         let d = run_messages::deal(tapes.next, at.next, x);
         retape_pairs::put_in(room, n, k, d.prev());
         retape_pairs::put_draws(moved, at.next, d.a ^ (y ^ x), d.b);

@@ -17,17 +17,6 @@ use file_reader::Circuit;
 use retape_pairs::Tapes;
 use std::ops::Range;
 
-// "after 3 comes 1". Here, since nobody else asks for it.
-fn next_site(site: Site) -> Site
-    ensures { seat result ≡ next (seat site) }
-{
-    match site {
-        Site::One => Site::Two,
-        Site::Two => Site::Three,
-        Site::Three => Site::One,
-    }
-}
-
 // Where a site's tape stands: site 1's of a bits first, then site 2's of b, then site 3's up to the end.
 fn tape_of(site: Site, a: usize, b: usize, all: usize) -> Range<usize>
     requires { (a ≤ 65536) × (b ≤ 65536) }
@@ -100,11 +89,11 @@ pub fn renew(
     ensures fresh_after { fresh.new ≡ tapes_on c.now.circuit.file.now inputs.now tapes.now second.now (number_of site) }
     ensures room_after { room.new ≡ room_on c.now.circuit.file.now inputs.now tapes.now second.now (number_of site) }
 {
-    let one = 2 * (file_counts::count_owned(&c.circuit, Site::One) + c.ands);
-    let two = 2 * (file_counts::count_owned(&c.circuit, Site::Two) + c.ands);
+    let one = 2 * (file_counts::owned_by(&c.circuit, Site::One) + c.ands);
+    let two = 2 * (file_counts::owned_by(&c.circuit, Site::Two) + c.ands);
     let all = tapes.len();
-    let after = next_site(site);
-    let before = next_site(after);
+    let after = site.next();
+    let before = after.next();
     let o = tape_of(site, one, two, all);
     let n = tape_of(after, one, two, all);
     let p = tape_of(before, one, two, all);

@@ -81,10 +81,7 @@ pub fn run_opened(
     ensures { run_after result outputs.new transcript.new store.new
         ≡ does (Run c.now.file.now inputs.now tapes.now line.now outputs.old transcript.old store.old) }
 {
-    let c = Counted {
-        circuit: *c,
-        ands: file_counts::count_ands(c),
-    };
+    let c = Counted::from(*c);
     check_given::run(
         &c,
         inputs,
@@ -111,14 +108,6 @@ pub fn run(
     ensures { run_after result outputs.new transcript.new store.new
         ≡ does (Run file.now inputs.now tapes.now line.now outputs.old transcript.old store.old) }
 {
-    let counts = check_circuit::check_file(file)?;
-    run_opened(
-        &Circuit { file, counts },
-        inputs,
-        tapes,
-        line,
-        outputs,
-        transcript,
-        store,
-    )
+    let c = check_circuit::circuit(file)?;
+    run_opened(&c, inputs, tapes, line, outputs, transcript, store)
 }

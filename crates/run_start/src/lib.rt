@@ -14,8 +14,8 @@ use run_steps::Pos;
 pub fn begin(c: &Counted<'_>) -> Pos
     ensures { result ≡ in_place (circuit c.now.circuit.file.now) 0 }
 {
-    let o1 = file_counts::count_owned(&c.circuit, Site::One);
-    let o2 = file_counts::count_owned(&c.circuit, Site::Two);
+    let o1 = file_counts::owned_by(&c.circuit, Site::One);
+    let o2 = file_counts::owned_by(&c.circuit, Site::Two);
     let t2 = 2 * (o1 + c.ands);
     Pos {
         t1: 0,

@@ -125,7 +125,7 @@ opened_bit_missed = record {
 }
 
 -- An input of another site that differs is refused.
--- retape_differs: `file_counts::input_owned(c, site, k) && inputs[k] != second[k]` → `inputs[k] != second[k]`
+-- retape_differs: `file_counts::owns(c, site, k) && inputs[k] != second[k]` → `inputs[k] != second[k]`
 abbrev pub refused_where_tapes_exist : Wrong
 refused_where_tapes_exist = record {
   call = K_retape 3 (1 ∷ 0 ∷ []) (0 ∷ 1 ∷ []);

@@ -12,7 +12,7 @@ use file_reader::Circuit;
 use traffic_entries::Table;
 
 // What all inputs, all gates, all outputs add. The three differ in more than what a step adds: the bound on the number of steps, which keeps the
-// sums small, is each one's own.
+// sums small, is each one's own. A turn's sum has a name of its own, `more`: that a call lays its array in `table` itself, the borrow checker does not cover.
 fn inputs_table(c: &Circuit<'_>) -> Table
     ensures { result ≡ sums_upto (input_steps c.now.file.now) c.now.counts.inputs }
 {
@@ -42,7 +42,7 @@ fn outputs_table(n: usize) -> Table
     ensures { result ≡ sums_upto output_steps n }
 {
     let mut table = [[0u32; 3]; 3];
-    for _k in 0..n {
+    for _ in 0..n {
         let more = traffic_entries::added(table, traffic_entries::output_adds());
         table = more;
     }
@@ -67,11 +67,11 @@ pub fn traffic_of(file: &[u8], number: &mut usize, place: &mut usize) -> [[u32; 
     ensures number_after { number.new ≡ number_of (does (Traffic file.now)).answer }
     ensures place_after { place.new ≡ place_of (does (Traffic file.now)).answer }
 {
-    match check_circuit::check_file(file) {
-        Ok(counts) => {
+    match check_circuit::circuit(file) {
+        Ok(c) => {
             *number = 0;
             *place = 0;
-            whole_table(&Circuit { file, counts })
+            whole_table(&c)
         }
         Err(refusal) => {
             *number = refusal.number();

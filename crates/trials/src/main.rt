@@ -34,8 +34,10 @@ fn make(which: usize, number: usize) -> Option<()> {
         9 => retapes::retape(number),
         10 => single::on_slice(single::table),
         11 => single::on_slice(jobs::listed),
+        12 => readers::gate(number),
+        13 => readers::owner(number),
         15 => texts::from_bristol(number),
-        _ => readers::call(which, number),
+        _ => readers::output(number),
     }
 }
 

@@ -4,32 +4,40 @@ use file_parts::Gate;
 use file_reader::Reader;
 use trials_stream::{input, print};
 
-// Reads the file and the counts beside it, and makes the call by its number: what is neither 12 nor 13 is 14.
-pub fn call(which: usize, k: usize) -> Option<()> {
-    let mut room = io::large_buffer();
+// Reads the file, into a lent room, and the counts beside it.
+fn reader(room: &mut [u8]) -> Option<Reader<'_>> {
     let mut counts = [0u8; 12];
-    let file = input::slice(&mut room)?;
+    let file = input::slice(room)?;
     input::slice(&mut counts)?;
-    let reader = Reader {
+    Some(Reader {
         file,
         inputs: file_numbers::u32_at(&counts, 0) as usize,
         gates: file_numbers::u32_at(&counts, 4) as usize,
         outputs: file_numbers::u32_at(&counts, 8) as usize,
-    };
-    match which {
-        12 => {
-            print::word(b"gate_read");
-            answered(file_claimed::gate_read(reader, k).map(numbers));
-        }
-        13 => {
-            print::word(b"owner_read");
-            answered(file_claimed::owner_read(reader, k).map(|site| [site as usize]));
-        }
-        _ => {
-            print::word(b"output_read");
-            answered(file_claimed::output_read(reader, k).map(|wire| [wire as usize]));
-        }
-    }
+    })
+}
+
+pub fn gate(k: usize) -> Option<()> {
+    let mut room = io::large_buffer();
+    let reader = reader(&mut room)?;
+    print::word(b"gate_read");
+    answered(file_claimed::gate_read(reader, k).map(numbers));
+    Some(())
+}
+
+pub fn owner(k: usize) -> Option<()> {
+    let mut room = io::large_buffer();
+    let reader = reader(&mut room)?;
+    print::word(b"owner_read");
+    answered(file_claimed::owner_read(reader, k).map(|site| [site as usize]));
+    Some(())
+}
+
+pub fn output(k: usize) -> Option<()> {
+    let mut room = io::large_buffer();
+    let reader = reader(&mut room)?;
+    print::word(b"output_read");
+    answered(file_claimed::output_read(reader, k).map(|wire| [wire as usize]));
     Some(())
 }
 

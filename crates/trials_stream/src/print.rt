@@ -18,7 +18,7 @@ pub fn numbers(all: &[usize]) {
     word(b"\n");
 }
 
-// The line of a refusal, behind the call's name.
+// The line of a refusal, behind the call's name: two numbers, as the traffic table tells it.
 pub fn refused(refusal: usize, place: usize) {
     word(b" refused");
     numbers(&[refusal, place]);

@@ -33,7 +33,7 @@ fn given(
     check_given::slices(c, inputs, tapes)?;
     let seat = Site::try_from(site)?;
     let counts = c.circuit.counts;
-    let own = file_counts::count_owned(&c.circuit, seat);
+    let own = file_counts::owned_by(&c.circuit, seat);
     let buffers = [
         (
             view,
@@ -41,9 +41,7 @@ fn given(
         ),
         (store, 6 * (counts.inputs + counts.gates)),
     ];
-    if let Some(buffer) = check_slices::first_size(&buffers) {
-        return Err(Refusal::Buffer(buffer));
-    }
+    check_slices::first_size(&buffers)?;
     Ok(seat)
 }
 
@@ -72,7 +70,7 @@ pub fn view_checked(
     ensures store_after { store.new ≡ clean_store c.now.circuit.file.now inputs.now tapes.now }
 {
     let counts = c.circuit.counts;
-    let own = file_counts::count_owned(&c.circuit, site);
+    let own = file_counts::owned_by(&c.circuit, site);
     let start = run_start::begin(c);
     let t = tape_place(start, site);
     let m = 2 * (own + c.ands);
@@ -100,10 +98,7 @@ pub fn view_opened(
     ensures { done_after result (view.new ∷ store.new ∷ [])
         ≡ does (View c.now.file.now inputs.now tapes.now site view.old store.old) }
 {
-    let counted = Counted {
-        circuit: *c,
-        ands: file_counts::count_ands(c),
-    };
+    let counted = Counted::from(*c);
     let seat = given(&counted, inputs, tapes, site, view.len(), store.len())?;
     view_checked(&counted, inputs, tapes, seat, view, store);
     Ok(())
@@ -122,6 +117,6 @@ pub fn view_of(
     ensures { done_after result (view.new ∷ store.new ∷ [])
         ≡ does (View file.now inputs.now tapes.now site view.old store.old) }
 {
-    let counts = check_circuit::check_file(file)?;
-    view_opened(&Circuit { file, counts }, inputs, tapes, site, view, store)
+    let c = check_circuit::circuit(file)?;
+    view_opened(&c, inputs, tapes, site, view, store)
 }

@@ -4,7 +4,7 @@
 ghost use Rattle.std.specs.Prelude.{◌≡◌, cond, ◌+◌, ◌*◌, ◌<◌, ◌≤◌, length};
 ghost use Rattle.theory_sharing.specs.Sites.{is};
 ghost use Rattle.theory_sharing.specs.Tapes.{read};
-ghost use Rattle.theory_calls.specs.File.{circuit, owner_at};
+ghost use Rattle.theory_calls.specs.File.{circuit, owner_at, site_of};
 ghost use Rattle.theory_calls.specs.Calls.{at_wire};
 ghost use Rattle.check_tests.specs.Seat.{seat};
 ghost use Rattle.run_passes.specs.Mirror.{Small, st, own_place};
@@ -17,7 +17,7 @@ use run_steps::Pos;
 
 // Of three pairs, the site's. Part by part, so that no pair has to be in memory.
 #[tactic(auto, unfolding(crate::specs::Mirror::pair_of_site))]
-pub fn pair_of_site(h: Held, site: Site) -> Two
+pub fn held_by(h: Held, site: Site) -> Two
     ensures { result ≡ pair_of_site (seat site) h }
 {
     match site {
@@ -34,6 +34,13 @@ pub fn pair_of_site(h: Held, site: Site) -> Two
             y: h.p3.y,
         },
     }
+}
+
+// The same for a site's number, whatever it is: any but 1 and 2 stands for site 3.
+pub fn pair_of_site(h: Held, site: usize) -> Two
+    ensures { result ≡ pair_of_site (site_of site) h }
+{
+    held_by(h, Site::of(site))
 }
 
 // Two delivered bits.
@@ -81,13 +88,13 @@ fn input_step(
         (is (seat site) ((circuit c.now.file.now).owner k)) (st store.old got.old pos) }
 {
     let owner = c.owner(k);
-    let own = file_counts::input_owned(c, site, k);
+    let own = file_counts::owns(c, site, k);
     let next = run_passes::next_input(owner, pos);
     let t = run_passes::own_place(owner, pos);
     let dealt = run_messages::deal(tapes, t, v);
     let h = run_messages::in_pairs(owner, dealt, dealt);
     run_steps::put_held(store, c.wires(), k, h);
-    let at = see_two(got, pos.at, own, pair_of_site(h, site));
+    let at = see_two(got, pos.at, own, held_by(h, site));
     Pos { at, ..next }
 }
 

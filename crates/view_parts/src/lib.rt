@@ -24,7 +24,7 @@ pub fn own_inputs(c: &Circuit<'_>, inputs: &[u8], part: &mut [u8], site: Site)
 {
     let mut p: usize = 0;
     for (k, v) in inputs.iter().enumerate() {
-        if file_counts::input_owned(c, site, k) {
+        if file_counts::owns(c, site, k) {
             part[p] = *v;
             p += 1;
         }
@@ -105,7 +105,7 @@ fn opened_step(c: &Circuit<'_>, store: &[u8], part: &mut [u8], site: Site, k: us
     ensures { part.new ≡ opened_on (seat site) c.now.file.now store.now (c.now.counts.inputs + c.now.counts.gates) k part.old }
 {
     let h = run_openings::output_pairs(c, store, k);
-    let p = view_inputs::pair_of_site(h, site);
+    let p = view_inputs::held_by(h, site);
     let g = copies_of_site(h, site);
     part[k] = p.x ^ p.y ^ g.x;
 }

@@ -6,8 +6,8 @@ use Rattle.door_figures.proofs.sizes_for_c.Goals as goal
 
 pub returns-in-Ok : goal.returns-in-Ok
 unfolding sized header_answer
-returns-in-Ok c = c.sizes.ensures ∙ ap (λ (a : After). sized c.args.file.now a.answer) c.in-Ok.ensures.value
+returns-in-Ok c = rw c.in-Ok.ensures.lent at c.sizes.ensures ∙ ap (λ (a : After). sized c.args.file.now a.answer) c.in-Ok.ensures.value
 
 pub returns-in-Err : goal.returns-in-Err
 unfolding sized header_answer
-returns-in-Err c = c.no_sizes.ensures ∙ ap (λ (a : After). sized c.args.file.now a.answer) c.in-Err.ensures.value
+returns-in-Err c = c.from.ensures ∙ ap (λ (a : After). sized c.args.file.now a.answer) c.in-Err.ensures.value

@@ -2,7 +2,10 @@ use Rattle.std.proofs.lemmas.Result.{err_from_is_err_and}
 use Rattle.listing.proofs.PartLaws.{circuit_told}
 use Rattle.listing.proofs.list.Goals as goal
 
-pub returns-in_err-counts : goal.returns-in_err-counts
-returns-in_err-counts c =
+pub returns-in_err-c : goal.returns-in_err-c
+returns-in_err-c c =
     let p = err_from_is_err_and c.from_residual.result c.from_residual.ensures.1 in
-    rw (p.1, p.2) (circuit_told _ _ _ _ _ c.in_err-counts.ensures.value)
+    rw (p.1, p.2) (circuit_told _ _ _ _ _ c.in_err-c.ensures.value)
+
+pub returns : goal.returns
+returns c = rw (← c.in_ok-c.ensures.lent) c.list_opened.ensures

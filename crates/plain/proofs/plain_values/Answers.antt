@@ -3,7 +3,10 @@ use Rattle.check_circuit.proofs.FrontLaws.{done_circuit}
 use Rattle.plain.proofs.PlainCall.{front}
 use Rattle.plain.proofs.plain_values.Goals as goal
 
-pub returns-in_err-counts : goal.returns-in_err-counts
-returns-in_err-counts c =
+pub returns-in_err-c : goal.returns-in_err-c
+returns-in_err-c c =
     let p = err_from_is_err_and c.from_residual.result c.from_residual.ensures.1 in
-    rw (p.1, p.2) (done_circuit _ _ _ _ _ (front _ _ _) _ c.in_err-counts.ensures.value)
+    rw (p.1, p.2) (done_circuit _ _ _ _ _ (front _ _ _) _ c.in_err-c.ensures.value)
+
+pub returns : goal.returns
+returns c = rw (← c.in_ok-c.ensures.lent) c.plain_opened.ensures

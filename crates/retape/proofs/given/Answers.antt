@@ -19,18 +19,21 @@ returns-in_err-seat-clause-checks c =
     let p = err_from_is_err_and c.from_residual-in_err-seat.result c.from_residual-in_err-seat.ensures.1 in
     rw (p.1, p.2) (site_stop _ _ c.args.site (slices_go _ _ _ _ c.in_ok-slices.ensures) _ c.in_err-seat.ensures)
 
-pub returns-in-Some-clause-checks : goal.returns-in-Some-clause-checks
-returns-in-Some-clause-checks c =
+pub returns-in_err-first_size-clause-checks : goal.returns-in_err-first_size-clause-checks
+returns-in_err-first_size-clause-checks c =
+    let p = err_from_is_err_and c.from_residual-in_err-first_size.result c.from_residual-in_err-first_size.ensures.1 in
     let o = c.args.c.now.circuit.checked.opened in let n = c.args.c.now.counted.0 in
-    sizes_stop _ _ (buffers c.args.c.now c.args.fresh c.args.room) _ _ refl (retape_sizes _ _ _ o n)
-    (site_go _ _ c.args.site (slices_go _ _ _ _ c.in_ok-slices.ensures) _ c.in_ok-seat.ensures) _ c.in-Some.ensures
+    rw (p.1, p.2) (sizes_stop _ _ (buffers c.args.c.now c.args.fresh c.args.room) _ _ refl (retape_sizes _ _ _ o n)
+    (site_go _ _ c.args.site (slices_go _ _ _ _ c.in_ok-slices.ensures) _ c.in_ok-seat.ensures) _ c.in_err-first_size.ensures)
 
-pub returns-in-Some-bits_fault-clause-checks : goal.returns-in-Some-bits_fault-clause-checks
-returns-in-Some-bits_fault-clause-checks c =
+pub returns-in_err-bits-clause-checks : goal.returns-in_err-bits-clause-checks
+returns-in_err-bits-clause-checks c =
+    let p = err_from_is_err_and c.from_residual-in_err-bits.result c.from_residual-in_err-bits.ensures.1 in
+    let q = c.in_err-bits.ensures in
     let o = c.args.c.now.circuit.checked.opened in let n = c.args.c.now.counted.0 in
-    bits_stop _ 12 _ c.args.second.now _ _ o.ins_are
+    rw (p.1, p.2, q.2) (bits_stop _ 12 _ c.args.second.now _ _ o.ins_are
     (sizes_go _ _ (buffers c.args.c.now c.args.fresh c.args.room) _ _ refl (retape_sizes _ _ _ o n)
-    (site_go _ _ c.args.site (slices_go _ _ _ _ c.in_ok-slices.ensures) _ c.in_ok-seat.ensures) c.in_default.ensures) _ c.in-Some-bits_fault.ensures
+    (site_go _ _ c.args.site (slices_go _ _ _ _ c.in_ok-slices.ensures) _ c.in_ok-seat.ensures) c.in_ok-first_size.ensures) q.0 q.1)
 
 pub returns-clause-checks : goal.returns-clause-checks
 returns-clause-checks c =
@@ -38,4 +41,4 @@ returns-clause-checks c =
     nothing
     ∙ bits_go _ 12 _ c.args.second.now _ _ o.ins_are
     (sizes_go _ _ (buffers c.args.c.now c.args.fresh c.args.room) _ _ refl (retape_sizes _ _ _ o n)
-    (site_go _ _ c.args.site (slices_go _ _ _ _ c.in_ok-slices.ensures) _ c.in_ok-seat.ensures) c.in_default.ensures) c.in_default-bits_fault.ensures
+    (site_go _ _ c.args.site (slices_go _ _ _ _ c.in_ok-slices.ensures) _ c.in_ok-seat.ensures) c.in_ok-first_size.ensures) c.in_ok-bits.ensures

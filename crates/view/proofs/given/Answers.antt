@@ -23,17 +23,18 @@ returns-in_err-seat-clause-checks c =
     let p = err_from_is_err_and c.from_residual-in_err-seat.result c.from_residual-in_err-seat.ensures.1 in
     rw (p.1, p.2) (site_stop _ _ c.args.site (slices_go _ _ _ _ c.in_ok-slices.ensures) _ c.in_err-seat.ensures)
 
-pub returns-in-Some-clause-checks : goal.returns-in-Some-clause-checks
-returns-in-Some-clause-checks c =
+pub returns-in_err-first_size-clause-checks : goal.returns-in_err-first_size-clause-checks
+returns-in_err-first_size-clause-checks c =
+    let p = err_from_is_err_and c.from_residual-in_err-first_size.result c.from_residual-in_err-first_size.ensures.1 in
     let k = c.args.c.now in let o = k.circuit.checked.opened in
-    let e = c.count_owned-own.ensures.value ∙ ap (λ (s : Site). owned (circuit k.circuit.file.now).owner s k.circuit.counts.inputs) (seated_is _ _ c.in_ok-seat.ensures) in
-    sizes_stop _ _ (buffers c.args.c.now c.count_owned-own.result c.args.view c.args.store) _ _ refl (view_sizes _ _ _ o k.counted.0 _ _ e)
-    (site_go _ _ c.args.site (slices_go _ _ _ _ c.in_ok-slices.ensures) _ c.in_ok-seat.ensures) _ c.in-Some.ensures
+    let e = c.owned_by-own.ensures.value ∙ ap (λ (s : Site). owned (circuit k.circuit.file.now).owner s k.circuit.counts.inputs) (seated_is _ _ c.in_ok-seat.ensures) in
+    rw (p.1, p.2) (sizes_stop _ _ (buffers c.args.c.now c.owned_by-own.result c.args.view c.args.store) _ _ refl (view_sizes _ _ _ o k.counted.0 _ _ e)
+    (site_go _ _ c.args.site (slices_go _ _ _ _ c.in_ok-slices.ensures) _ c.in_ok-seat.ensures) _ c.in_err-first_size.ensures)
 
 pub returns-clause-checks : goal.returns-clause-checks
 returns-clause-checks c =
     let k = c.args.c.now in let o = k.circuit.checked.opened in
-    let e = c.count_owned-own.ensures.value ∙ ap (λ (s : Site). owned (circuit k.circuit.file.now).owner s k.circuit.counts.inputs) (seated_is _ _ c.in_ok-seat.ensures) in
+    let e = c.owned_by-own.ensures.value ∙ ap (λ (s : Site). owned (circuit k.circuit.file.now).owner s k.circuit.counts.inputs) (seated_is _ _ c.in_ok-seat.ensures) in
     nothing
-    ∙ sizes_go _ _ (buffers c.args.c.now c.count_owned-own.result c.args.view c.args.store) _ _ refl (view_sizes _ _ _ o k.counted.0 _ _ e)
-    (site_go _ _ c.args.site (slices_go _ _ _ _ c.in_ok-slices.ensures) _ c.in_ok-seat.ensures) c.in_default.ensures
+    ∙ sizes_go _ _ (buffers c.args.c.now c.owned_by-own.result c.args.view c.args.store) _ _ refl (view_sizes _ _ _ o k.counted.0 _ _ e)
+    (site_go _ _ c.args.site (slices_go _ _ _ _ c.in_ok-slices.ensures) _ c.in_ok-seat.ensures) c.in_ok-first_size.ensures

@@ -11,19 +11,19 @@ use Rattle.view.proofs.view_checked.Goals as goal
 
 pub overflow_add-t : goal.overflow_add-t
 overflow_add-t c =
-    let o = c.count_owned-own.ensures in
+    let o = c.owned_by-own.ensures in
     let b = place_base _ _ _ _ c.begin-start.ensures c.tape_place-t.ensures in
     let h = tape_fits _ _ _ _ _ _ _ c.requires _ c.args.c.now.counted.0 _ o.value o.bound _ b in search rules
 
 pub slice_bounds-copy-end : goal.slice_bounds-copy-end
 slice_bounds-copy-end c =
-    let o = c.count_owned-own.ensures in
+    let o = c.owned_by-own.ensures in
     let b = place_base _ _ _ _ c.begin-start.ensures c.tape_place-t.ensures in
     let h = tape_fits _ _ _ _ _ _ _ c.requires _ c.args.c.now.counted.0 _ o.value o.bound _ b in omega arith
 
 pub returns : goal.returns
 returns c =
-    let a = c.args in let f = a.c.now.circuit in let o = c.count_owned-own.ensures in
+    let a = c.args in let f = a.c.now.circuit in let o = c.owned_by-own.ensures in
     let n = in_order _ _ _ _ _ _ _ c.requires _ a.c.now.counted.0 _ o.value o.bound in
     let l : length c.split_at_mut-got.result.1.now ≡ f.counts.outputs = omega arith in
     let b = place_base _ _ _ _ c.begin-start.ensures c.tape_place-t.ensures in
