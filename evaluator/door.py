@@ -4,7 +4,7 @@
 
 makes the calls of the stored stream (crates/trials/stdin) but those to a reader, and drawn ones, through target/lib/libbakebutton.a, with every
 slice in memory of its own beside memory that may not be touched (door.c), and C's side under the compiler's sanitizers where they can be had.
-What is printed must be the evaluator's text.
+What is printed must be the evaluator's text. And the library may want no more from outside than README and the header say.
 """
 
 import os
@@ -23,6 +23,7 @@ import trials  # noqa: E402
 ROOT = os.path.join(check.HERE, os.pardir)
 LIBRARY = os.path.join(ROOT, "target", "lib", "libbakebutton.a")
 SOURCES = ["door.c", "circuit.c", "stream.c"]
+OUTSIDE = {"memcpy", "memset"}
 CASES = 4000
 SEED = 20267
 
@@ -45,6 +46,44 @@ def built(folder, name, options):
     return None if done.returncode else program
 
 
+def number(data, at, size):
+    return int.from_bytes(data[at:at + size], "little")
+
+
+def symbols(elf):
+    """The names of an object that are not its own alone: those that it has, and those that it wants."""
+    had, wanted = set(), set()
+    first, size, count = number(elf, 40, 8), number(elf, 58, 2), number(elf, 60, 2)
+    sections = [elf[first + size * k:first + size * (k + 1)] for k in range(count)]
+    for section in sections:
+        if number(section, 4, 4) != 2:  # a table of symbols
+            continue
+        names = number(sections[number(section, 40, 4)], 24, 8)
+        begin, length = number(section, 24, 8), number(section, 32, 8)
+        for at in range(begin, begin + length, 24):
+            name = names + number(elf, at, 4)
+            text = elf[name:elf.index(b"\0", name)].decode()
+            if text and elf[at + 4] >> 4:  # not local
+                (had if number(elf, at + 6, 2) else wanted).add(text)
+    return had, wanted
+
+
+def outside(archive):
+    """What an archive's objects want that none of them has."""
+    with open(archive, "rb") as file:
+        data = file.read()
+    had, wanted, at = set(), set(), 8
+    while at + 60 <= len(data):
+        size = int(data[at + 48:at + 58])
+        member = data[at + 60:at + 60 + size]
+        if member[:4] == b"\x7fELF":
+            more = symbols(member)
+            had |= more[0]
+            wanted |= more[1]
+        at += 60 + size + size % 2
+    return wanted - had
+
+
 def printed(program, stream):
     options = dict(os.environ, ASAN_OPTIONS="detect_leaks=0")
     done = subprocess.run([tool("run86"), program], input=stream, env=options, stdout=subprocess.PIPE, stderr=subprocess.PIPE)
@@ -62,6 +101,9 @@ def drawn():
 def main():
     if subprocess.run([tool("library")], stdout=subprocess.DEVNULL).returncode:
         fail("the library could not be built")
+    wants = outside(LIBRARY)
+    if wants - OUTSIDE:
+        fail("the library wants from outside " + ", ".join(sorted(wants - OUTSIDE)) + " too")
     streams = {"stored": trials.stored_for_c()}
     with tempfile.TemporaryDirectory() as folder:
         evaluator = check.compiled(folder, "evaluator", [*check.SOURCES, "stream.c"], ["-O2"])

@@ -19,7 +19,7 @@ pub fn from_bristol(text: &[u8], owners: &[u8], room: &mut [u8]) -> Result<usize
         return Err(Refusal::Buffer(0));
     }
     let mut numbering = Numbering::new();
-    let pass = bristol_pass::read_lines(text, &mut numbering)?;
+    let pass = bristol_pass::read_numbered(text, &mut numbering)?;
     bristol_checks::rest_check(pass.lines, &numbering, owners)?;
-    Ok(bristol_file::put_file(room, text, pass.seat, owners, &numbering))
+    Ok(bristol_file::put_numbered(room, text, pass.seat, owners, &numbering))
 }

@@ -1,5 +1,5 @@
 -- The checks behind the last line, as their searches and tests meet them.
---     outs_said                     the output wires
+--     outs_said                     the output wires;  outs_on, outs_off, written, unwritten: one after the other
 --     owners_short, owners_first    4
 --     given_4, given_2              4, then 2
 -- Assumes nothing.
@@ -9,11 +9,11 @@ use mathlib.Core.Bool.{true≢false}
 use Rattle.std.proofs.Common.{◌≢◌, Option, None, Some, position}
 use mathlib.Core.Bool.{Bool, true, false, not, ◌&&◌}
 use mathlib.Core.List.{List, [], ◌∷◌}
-use Prim.Native.Nat.{ℕ, zero, suc, ◌+◌, ◌<◌, ◌≤◌}
+use Prim.Native.Nat.{ℕ, zero, suc, ◌+◌, ◌-◌, ◌<◌, ◌≤◌}
 use native.Mathlib.Omega.{arith}
 use lib.ListN.{length, get_or}
 use lib.Dec.{leb, ltb, eqb}
-use borrow.Author.Tests.{ltb-true, ltb-false}
+use borrow.Author.Tests.{ltb-true, ltb-false, eq-eqb, ne_eqb}
 use Rattle.theory_sharing.specs.First.{first}
 use Rattle.theory_calls.specs.Checks.{refusal, one_to_three, limits_row, fault, Verdict, accepted, refuses, verdict}
 use Rattle.theory_calls.proofs.Refusals.{row_refuses, row_passes}
@@ -24,6 +24,7 @@ use Rattle.check_refusal.specs.Found.{some_below}
 use Rattle.check_refusal.proofs.FoundLaws.{some_is, none_is, some_found, none_found, position_first}
 use Rattle.bristol_text.specs.Heard.{count_up}
 use Rattle.bristol_text.specs.Call.{row_values}
+use Rattle.bristol_text.proofs.CountLaws.{count_one}
 use Rattle.bristol_wires.specs.declared.Text.{Text}
 use Rattle.bristol_wires.specs.Mirror.{entry_of}
 use Rattle.bristol_laws.specs.Matches.{all_entered}
@@ -109,3 +110,26 @@ module _ (t : Text) (os : List ℕ) where
   given_2 e r q =
       let h = none_found _ _ e in
       rw q (limits_say t.ins t.made t.outs) ∙ row_passes 4 _ (row_values os t.values) _ refl (omega (arith, h))
+
+-- the output wires one by one, from number o on
+module _ (m : List ℕ) (I a n : ℕ) where
+  -- whether the wires from number o on have entries
+  abbrev from_out : ℕ → Bool
+  from_out o = all_entered m I (count_up (a + o) (n - o))
+
+  one : (o : ℕ) → o < n → from_out o ≡ (not (eqb (entry_of m I (a + o)) 0) && from_out (o + 1))
+  unfolding all_entered
+  one o h = ap (all_entered m I) (count_one a n o h)
+
+  pub outs_on : (o e : ℕ) → o < n → e ≡ entry_of m I (a + o) → (e ≡ 0 → ⊥) → from_out (o + 1) ≡ from_out o
+  outs_on o e h p z = sym (one o h ∙ rw (← p, ne_eqb e 0 z))
+
+  pub outs_off : (o e : ℕ) → o < n → e ≡ entry_of m I (a + o) → e ≡ 0 → false ≡ from_out o
+  outs_off o e h p z = sym (one o h ∙ rw (← p, eq-eqb e 0 z))
+
+  -- the same, as the loop meets them: no line names the test's own goal, so a wrong test falls at the promise itself
+  pub unwritten : (o e : ℕ) (r : Bool) → o < n → e ≡ entry_of m I (a + o) → e ≡ 0 → from_out o ≡ r → false ≡ r
+  unwritten o e r h p z q = outs_off o e h p z ∙ q
+
+  pub written : (o e : ℕ) (r : Bool) → o < n → e ≡ entry_of m I (a + o) → e ≢ 0 → from_out o ≡ r → from_out (o + 1) ≡ r
+  written o e r h p z q = outs_on o e h p z ∙ q

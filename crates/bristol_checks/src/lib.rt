@@ -12,13 +12,12 @@ use bristol_wires::{Numbering, Text};
 use check_refusal::Refusal;
 
 // "17 for an output wire never written": whether all are.
-fn outputs_written(numbering: &Numbering) -> bool
-    requires { numbering.now.text.outs ≤ numbering.now.text.wires }
-    ensures { result ≡ outs_entered numbering.now.map numbering.now.text }
+fn outputs_written(map: &[u16], t: Text) -> bool
+    requires { t.outs ≤ t.wires }
+    ensures { result ≡ outs_entered map.now t }
 {
-    let wires = numbering.text.wires;
-    (wires - numbering.text.outs..wires)
-        .find(|&w| numbering.entry(w) == 0)
+    (t.wires - t.outs..t.wires)
+        .find(|&w| bristol_wires::entry(map, t.ins, w) == 0)
         .is_none()
 }
 
@@ -54,17 +53,25 @@ fn given_check(t: Text, owners: &[u8]) -> Result<(), Refusal>
     }
 }
 
-// All of them, behind a pass over so many lines, none of which has a fault.
+// All of them, behind a pass over so many lines, none of which has a fault; the map may have any length.
 #[tactic(auto, unfolding(crate::specs::Mirror::rest_verdict))]
+pub fn rest_fault(lines: usize, t: Text, map: &[u16], owners: &[u8]) -> Result<(), Refusal>
+    requires { t.outs ≤ t.wires }
+    ensures { found result ≡ rest_verdict lines t map.now owners.now }
+{
+    let (Stage::Gates, 0) = (t.stage, t.left) else {
+        return Err(Refusal::TextLine(lines));
+    };
+    if !outputs_written(map, t) {
+        return Err(Refusal::TextWire(lines));
+    }
+    given_check(t, owners)
+}
+
+// The same of a numbering.
 pub fn rest_check(lines: usize, numbering: &Numbering, owners: &[u8]) -> Result<(), Refusal>
     requires { numbering.now.text.outs ≤ numbering.now.text.wires }
     ensures { found result ≡ rest_verdict lines numbering.now.text numbering.now.map owners.now }
 {
-    let (Stage::Gates, 0) = (numbering.text.stage, numbering.text.left) else {
-        return Err(Refusal::TextLine(lines));
-    };
-    if !outputs_written(numbering) {
-        return Err(Refusal::TextWire(lines));
-    }
-    given_check(numbering.text, owners)
+    rest_fault(lines, numbering.text, &numbering.map, owners)
 }

@@ -1,18 +1,20 @@
 -- What holds of owners, outputs and the file as they are written.
 --     Outs, outs_start, outs_turn, outs_end    the outputs, from the first on: what is left to write
 --     header_put                 eight fields, one after the other
+--     owner_turn                 one owner, wire by wire
 -- Assumes nothing.
-use mathlib.Core.Path.{◌≡◌, refl, sym, ◌∙◌}
+use mathlib.Core.Path.{◌≡◌, refl, sym, ap, ◌∙◌}
 use mathlib.Core.List.{List, ◌∷◌, ◌++◌, map}
 use Prim.Native.Nat.{ℕ, suc, ◌+◌, ◌*◌, ◌-◌, ◌<◌}
 use native.Mathlib.Omega.{arith}
+use lib.ListN.{length, take, set, replicate, length-replicate, get_or-replicate}
 use Rattle.theory_sharing.specs.Store.{fill}
 use Rattle.theory_calls.specs.File.{size, gates_start, outputs_start}
 use Rattle.theory_files.specs.Written.{two, four, header_bytes, output_bytes}
 use Rattle.theory_files.proofs.ReadBack.{length_header}
 use Rattle.bristol_text.specs.Heard.{count_up}
 use Rattle.file_writer.specs.Mirror.{write}
-use Rattle.file_writer.proofs.WriteLaws.{write_write, write_none, Put, put_put, put_filled}
+use Rattle.file_writer.proofs.WriteLaws.{write_write, write_none, word_turn, Put, put_put, put_filled}
 
 -- a number of four bytes
 abbrev Four : ℕ → ℕ → List ℕ → List ℕ → ℕ → Type 0
@@ -75,3 +77,10 @@ module _ (f : ℕ → ℕ) (a n at : ℕ) (l : List ℕ) where
         let k : (a + n) - w ≡ 0 = omega (arith, h) in
         let u = s.place in
         (sym (write_none to m) ∙ (rw k at s.same), omega (arith, u, h))
+
+-- one owner, wire by wire
+pub owner_turn : (at o n : ℕ) (l m : List ℕ) (k : ℕ) → m ≡ write at (take k (replicate n o)) l → k < n → at + k < length m
+    → set m (at + k) o ≡ write at (take (k + 1) (replicate n o)) l
+owner_turn at o n l m k e h g =
+    let long : length (replicate n o) ≡ n = length-replicate n o in
+    ap (set m (at + k)) (sym (get_or-replicate n k o 0 h)) ∙ word_turn at (replicate n o) l m k e (omega (arith, long)) g

@@ -10,7 +10,7 @@ ghost use Rattle.bristol_text.specs.Renamed.{spread};
 ghost use Rattle.file_writer.specs.Mirror.{write};
 ghost use Rattle.bristol_file.specs.Mirror.{outs_of, Few, Widths, widths_in, Seated, file_by};
 
-use bristol_wires::Numbering;
+use bristol_wires::{Numbering, Text};
 
 // 01's eight fields.
 fn put_header(room: &mut [u8], i: u32, g: u32, o: u32) -> usize
@@ -61,22 +61,48 @@ fn put_owners(room: &mut [u8], at: usize, text: &[u8], seat: usize, owners: &[u8
 }
 
 // "outputs the highest", by our numbers.
-fn put_outputs(room: &mut [u8], at: usize, numbering: &Numbering) -> usize
-    requires few { numbering.now.text.outs ≤ numbering.now.text.wires }
-    requires room_long { at + 2 * numbering.now.text.outs ≤ length room.old }
-    ensures room_after { room.new ≡ write at (output_bytes (outs_of numbering.now.map numbering.now.text)) room.old }
-    ensures value { result ≡ at + 2 * numbering.now.text.outs }
+fn put_outputs(room: &mut [u8], at: usize, map: &[u16], t: Text) -> usize
+    requires few { t.outs ≤ t.wires }
+    requires room_long { at + 2 * t.outs ≤ length room.old }
+    ensures room_after { room.new ≡ write at (output_bytes (outs_of map.now t)) room.old }
+    ensures value { result ≡ at + 2 * t.outs }
 {
-    let wires = numbering.text.wires;
     let mut to = at;
-    for w in wires - numbering.text.outs..wires {
-        to = file_writer::put_u16(room, to, numbering.ours(w));
+    for w in t.wires - t.outs..t.wires {
+        to = file_writer::put_u16(room, to, bristol_wires::ours(map, t.ins, w));
     }
     to
 }
 
-// The file. The inputs' line begins at seat; its first word is how many values there are.
+// The file, from a map of any length. The inputs' line begins at seat; its first word is how many values there are.
 pub fn put_file(
+    room: &mut [u8],
+    text: &[u8],
+    seat: usize,
+    owners: &[u8],
+    t: Text,
+    map: &[u16],
+    gates: &[u8],
+) -> usize
+    requires seat_inside { seat ≤ length text.now }
+    requires few { Few t }
+    requires room_long { length room.old ≡ 20000 }
+    requires gates_long { length gates.now ≡ 18432 }
+    requires seated { Seated text.now seat owners.now t }
+    ensures room_after { room.new
+        ≡ fill room.old (file_by text.now seat owners.now t map.now gates.now) }
+    ensures value { result ≡ size t.ins t.made t.outs }
+{
+    let a = put_header(room, t.ins, t.made, t.outs);
+    let values = bristol_words::next_word(text, seat);
+    let b = put_owners(room, a, text, values.end, owners);
+    let n = 6 * t.made as usize;
+    let c = file_writer::put_bytes(room, b, &gates[..n]);
+    put_outputs(room, c, map, t)
+}
+
+// The same from a numbering.
+pub fn put_numbered(
     room: &mut [u8],
     text: &[u8],
     seat: usize,
@@ -91,11 +117,13 @@ pub fn put_file(
         ≡ fill room.old (file_by text.now seat owners.now numbering.now.text numbering.now.map numbering.now.gates) }
     ensures value { result ≡ size numbering.now.text.ins numbering.now.text.made numbering.now.text.outs }
 {
-    let t = numbering.text;
-    let a = put_header(room, t.ins, t.made, t.outs);
-    let values = bristol_words::next_word(text, seat);
-    let b = put_owners(room, a, text, values.end, owners);
-    let n = 6 * t.made as usize;
-    let c = file_writer::put_bytes(room, b, &numbering.gates[..n]);
-    put_outputs(room, c, numbering)
+    put_file(
+        room,
+        text,
+        seat,
+        owners,
+        numbering.text,
+        &numbering.map,
+        &numbering.gates,
+    )
 }

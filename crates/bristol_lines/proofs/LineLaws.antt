@@ -5,11 +5,12 @@
 --     gate_first, gate_second, gate_stop, gate_line      the gate line, by its counts and wires
 --     word_bad, word_good, word_line                     behind these
 --     line_blank, line_counts, line_inputs, line_outputs, line_gate    a line by its stage
+--     gates_behind                                       a line behind three header lines or more
 -- Assumes nothing.
 use mathlib.Core.Path.{◌≡◌, refl, sym, ap, ◌∙◌}
 use mathlib.Core.Bool.{Bool, true, false, not, cond, ◌||◌}
 use mathlib.Core.List.{List, [], ◌∷◌}
-use Prim.Native.Nat.{ℕ, ◌+◌}
+use Prim.Native.Nat.{ℕ, zero, suc, ◌+◌}
 use native.Mathlib.Omega.{arith}
 use lib.Dec.{ltb, eqb}
 use borrow.Author.Tests.{eqb-true}
@@ -164,3 +165,12 @@ module _ (t : List ℕ) (at W : ℕ) (f : Word) (n : Next t at f) (q : f.start �
   pub line_gate : (r : Option Line) → LineFrom t f.end (gate_from W f (words_at t f.end)) r → LineAt t at 3 W r
   unfolding text.line_says
   line_gate r h = from_behind t at f.end _ _ r h (rw first (same_gate (word_in t f) (words_at t f.end) n.number)) n.line
+
+-- behind three header lines or more
+pub gates_behind : (K W : ℕ) (ws : List (List ℕ)) → (K ≡ 0 → ⊥) → (K ≡ 1 → ⊥) → (K ≡ 2 → ⊥) → text.line_says 3 W ws ≡ text.line_says K W ws
+unfolding text.line_says
+gates_behind K W [] a b c = refl
+gates_behind zero W (w ∷ ws) a b c = absurd (a refl)
+gates_behind (suc zero) W (w ∷ ws) a b c = absurd (b refl)
+gates_behind (suc (suc zero)) W (w ∷ ws) a b c = absurd (c refl)
+gates_behind (suc (suc (suc K))) W (w ∷ ws) a b c = refl

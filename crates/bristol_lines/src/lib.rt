@@ -1,7 +1,8 @@
 // What a line of a text says, read from a place in it.
 #![tactic(auto)]
 
-ghost use Rattle.std.specs.Prelude.{◌≡◌, ◌+◌, ◌≤◌, length};
+ghost use Rattle.std.specs.Prelude.{◌≡◌, ◌+◌, ◌≤◌, ℕ, List, length};
+ghost use Rattle.bristol_text.specs.Lines.{line_says};
 ghost use Rattle.bristol_text.specs.Told.{header_lines};
 ghost use Rattle.bristol_words.specs.Mirror.{words_at};
 ghost use Rattle.bristol_lines.specs.Mirror.{LineAt, LineFrom, gate_says, Summed, WiresRead, wires_from, counts_from, widths_from, gate_from};
@@ -166,7 +167,7 @@ fn gate_line(text: &[u8], first: Word, wires: u32) -> Option<Line>
 }
 
 // The line that begins at a place, by which comes next, with so many wires. A line that is no good text is none.
-pub fn line_at(text: &[u8], at: usize, stage: Stage, wires: u32) -> Option<Line>
+pub fn line_by(text: &[u8], at: usize, stage: Stage, wires: u32) -> Option<Line>
     requires { at ≤ length text.now }
     ensures { LineAt text.now at (header_lines stage) wires result }
 {
@@ -182,4 +183,24 @@ pub fn line_at(text: &[u8], at: usize, stage: Stage, wires: u32) -> Option<Line>
         Stage::Inputs | Stage::Outputs => widths_line(text, first, wires),
         Stage::Gates => gate_line(text, first, wires),
     }
+}
+
+// Which line comes behind so many header lines: behind three or more a gate.
+fn stage_of(lines: u32) -> Stage
+    ensures { (W : ℕ) → (ws : List (List ℕ)) → line_says (header_lines result) W ws ≡ line_says lines W ws }
+{
+    match lines {
+        0 => Stage::Counts,
+        1 => Stage::Inputs,
+        2 => Stage::Outputs,
+        _ => Stage::Gates,
+    }
+}
+
+// The same, by how many header lines there were.
+pub fn line_at(text: &[u8], at: usize, lines: u32, wires: u32) -> Option<Line>
+    requires { at ≤ length text.now }
+    ensures { LineAt text.now at lines wires result }
+{
+    line_by(text, at, stage_of(lines), wires)
 }

@@ -8,3 +8,4 @@ pub mod Standing
 pub mod TextFile
 pub mod WholeCall
 pub mod FileCalls
+pub mod CountLaws

@@ -3,8 +3,10 @@
 #![tactic(auto)]
 
 ghost use Rattle.std.specs.Prelude.{◌≡◌, ◌≤◌};
+ghost use Rattle.theory_calls.specs.Answer.{refused};
 ghost use Rattle.check_refusal.specs.Number.{number_of, place_of};
-ghost use Rattle.door_answers.specs.Told.{nine};
+ghost use Rattle.door_answers.specs.Told.{told, told_counts, told_gate, told_owner, told_output, told_listing, told_file, nine};
+ghost use Rattle.door_answers.specs.Sizes.{no_sizes};
 ghost use Rattle.door_answers.specs.Mirror.{sizes_from};
 
 use check_refusal::Refusal;
@@ -102,11 +104,87 @@ pub struct SizesAnswer {
     pub room: usize,
 }
 
-// A refusal's number and place, as they stand in front in every struct. What stands behind them is then 0.
-fn numbers(e: Refusal) -> (usize, usize)
-    ensures { result ≡ (number_of e, place_of e) }
+// A refusal by its number and its place, which stand in front in every struct; what stands behind them is then 0.
+#[tactic(auto, unfolding(theory_calls::specs::Answer::number_of, theory_calls::specs::Answer::place_of, crate::specs::Told::sites_of))]
+pub fn refused_told(number: usize, place: usize) -> Answer
+    ensures { result ≡ told (refused number place) }
 {
-    (e.number(), e.place())
+    Answer {
+        number,
+        place,
+        sites: 0,
+    }
+}
+
+#[tactic(auto, unfolding(theory_calls::specs::Answer::number_of, theory_calls::specs::Answer::place_of, crate::specs::Told::value_of))]
+fn counts_refused(number: usize, place: usize) -> CountsAnswer
+    ensures { result ≡ told_counts (refused number place) }
+{
+    CountsAnswer {
+        number,
+        place,
+        inputs: 0,
+        gates: 0,
+        outputs: 0,
+    }
+}
+
+#[tactic(auto, unfolding(theory_calls::specs::Answer::number_of, theory_calls::specs::Answer::place_of, crate::specs::Told::value_of))]
+fn gate_refused(number: usize, place: usize) -> GateAnswer
+    ensures { result ≡ told_gate (refused number place) }
+{
+    GateAnswer {
+        number,
+        place,
+        kind: 0,
+        first: 0,
+        second: 0,
+    }
+}
+
+#[tactic(auto, unfolding(theory_calls::specs::Answer::number_of, theory_calls::specs::Answer::place_of, crate::specs::Told::value_of))]
+fn owner_refused(number: usize, place: usize) -> OwnerAnswer
+    ensures { result ≡ told_owner (refused number place) }
+{
+    OwnerAnswer {
+        number,
+        place,
+        owner: 0,
+    }
+}
+
+#[tactic(auto, unfolding(theory_calls::specs::Answer::number_of, theory_calls::specs::Answer::place_of, crate::specs::Told::value_of))]
+fn output_refused(number: usize, place: usize) -> OutputAnswer
+    ensures { result ≡ told_output (refused number place) }
+{
+    OutputAnswer {
+        number,
+        place,
+        wire: 0,
+    }
+}
+
+#[tactic(auto, unfolding(theory_calls::specs::Answer::number_of, theory_calls::specs::Answer::place_of, crate::specs::Told::value_of))]
+fn listing_refused(number: usize, place: usize) -> ListingAnswer
+    ensures { result ≡ told_listing (refused number place) }
+{
+    ListingAnswer {
+        number,
+        place,
+        length: 0,
+    }
+}
+
+#[tactic(auto, unfolding(theory_calls::specs::Answer::number_of, theory_calls::specs::Answer::place_of, crate::specs::Told::value_of))]
+fn file_refused(number: usize, place: usize) -> FileAnswer
+    ensures { result ≡ told_file (refused number place) }
+{
+    let length = 0;
+    FileAnswer {
+        number,
+        place,
+        length,
+    }
 }
 
 impl From<Refusal> for Answer {
@@ -116,12 +194,7 @@ impl From<Refusal> for Answer {
     ghost from_gives = { λ e a. a ≡ told (refused_by e) };
 
     fn from(e: Refusal) -> Answer {
-        let (number, place) = numbers(e);
-        Answer {
-            number,
-            place,
-            sites: 0,
-        }
+        refused_told(e.number(), e.place())
     }
 }
 
@@ -160,16 +233,7 @@ impl From<Result<Counts, Refusal>> for CountsAnswer {
                 gates: c.gates,
                 outputs: c.outputs,
             },
-            Err(e) => {
-                let (number, place) = numbers(e);
-                CountsAnswer {
-                    number,
-                    place,
-                    inputs: 0,
-                    gates: 0,
-                    outputs: 0,
-                }
-            }
+            Err(e) => counts_refused(e.number(), e.place()),
         }
     }
 }
@@ -189,16 +253,7 @@ impl From<Result<Gate, Refusal>> for GateAnswer {
                 first: g.first,
                 second: g.second,
             },
-            Err(e) => {
-                let (number, place) = numbers(e);
-                GateAnswer {
-                    number,
-                    place,
-                    kind: 0,
-                    first: 0,
-                    second: 0,
-                }
-            }
+            Err(e) => gate_refused(e.number(), e.place()),
         }
     }
 }
@@ -216,14 +271,7 @@ impl From<Result<u8, Refusal>> for OwnerAnswer {
                 place: 0,
                 owner,
             },
-            Err(e) => {
-                let (number, place) = numbers(e);
-                OwnerAnswer {
-                    number,
-                    place,
-                    owner: 0,
-                }
-            }
+            Err(e) => owner_refused(e.number(), e.place()),
         }
     }
 }
@@ -241,14 +289,7 @@ impl From<Result<u16, Refusal>> for OutputAnswer {
                 place: 0,
                 wire,
             },
-            Err(e) => {
-                let (number, place) = numbers(e);
-                OutputAnswer {
-                    number,
-                    place,
-                    wire: 0,
-                }
-            }
+            Err(e) => output_refused(e.number(), e.place()),
         }
     }
 }
@@ -266,14 +307,7 @@ impl From<Result<usize, Refusal>> for ListingAnswer {
                 place: 0,
                 length,
             },
-            Err(e) => {
-                let (number, place) = numbers(e);
-                ListingAnswer {
-                    number,
-                    place,
-                    length: 0,
-                }
-            }
+            Err(e) => listing_refused(e.number(), e.place()),
         }
     }
 }
@@ -284,11 +318,13 @@ impl From<Result<usize, Refusal>> for FileAnswer {
     ghost from_gives = { λ r a. a ≡ told_file (length_answer r) };
 
     fn from(r: Result<usize, Refusal>) -> FileAnswer {
-        let told = ListingAnswer::from(r);
-        FileAnswer {
-            number: told.number,
-            place: told.place,
-            length: told.length,
+        match r {
+            Ok(length) => FileAnswer {
+                number: 0,
+                place: 0,
+                length,
+            },
+            Err(e) => file_refused(e.number(), e.place()),
         }
     }
 }
@@ -333,17 +369,22 @@ pub fn sizes_from(c: Counts, a: usize, s1: usize, s2: usize, s3: usize) -> Sizes
 }
 
 // A refusal of the circuit: there are no lengths.
+pub fn no_sizes(number: usize, place: usize) -> SizesAnswer
+    ensures { result ≡ no_sizes number place }
+{
+    SizesAnswer {
+        number,
+        place,
+        ..SizesAnswer::default()
+    }
+}
+
 impl From<Refusal> for SizesAnswer {
     ghost use Rattle.door_answers.specs.Sizes.{no_sizes};
 
     ghost from_gives = { λ e a. a ≡ no_sizes (number_of e) (place_of e) };
 
     fn from(e: Refusal) -> SizesAnswer {
-        let (number, place) = numbers(e);
-        SizesAnswer {
-            number,
-            place,
-            ..SizesAnswer::default()
-        }
+        no_sizes(e.number(), e.place())
     }
 }

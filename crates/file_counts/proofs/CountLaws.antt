@@ -1,11 +1,12 @@
 -- What is counted in a circuit, as the code meets it.
---     deals_law             a gate that deals, by its kind
---     owned_law             an input of a site, by the owner's number
+--     deals_law, gate_deals_law     a gate that deals, by its kind; gate k of a file whose header is good
+--     number_law, owned_law         one site is another by their numbers; an input of a site, by the owner's number
 --     ands_none, ands_turn                 no gate yet, and one more
 --     owned_none, owned_yes, owned_no      no input yet, and one more, the site's or not
 -- Assumes nothing.
 use mathlib.Core.Path.{◌≡◌, refl, sym, ap, ap₂, ◌∙◌}
 use mathlib.Core.Bool.{Bool, true, false, cond}
+use mathlib.Core.List.{List}
 use Prim.Native.Nat.{ℕ, zero, suc, ◌+◌, ◌≤◌}
 use native.Mathlib.Omega.{arith}
 use native.Mathlib.Numerals.{add-one}
@@ -14,7 +15,9 @@ use lib.Dec.{eqb}
 use borrow.Author.Tests.{ne_eqb}
 use Rattle.theory_sharing.specs.Sites.{Site, s1, s2, s3, is}
 use Rattle.theory_sharing.specs.Circuit.{Gate, dealing, ands, owned}
-use Rattle.theory_calls.specs.File.{gate_of, site_of}
+use Rattle.theory_calls.specs.File.{circuit, gate_of, kind_at, first_at, second_at, site_of}
+use Rattle.file_header.specs.declared.Counts.{Counts}
+use Rattle.file_header.specs.Opened.{Opened}
 use Rattle.check_tests.specs.declared.Site.{Site as Seated}
 use Rattle.check_tests.specs.declared.Site.TheVariants.{One, Two, Three}
 use Rattle.check_tests.specs.Seat.{seat, number_of}
@@ -27,6 +30,25 @@ deals_law (suc zero) a b = refl
 deals_law (suc (suc zero)) a b = refl
 deals_law (suc (suc (suc zero))) a b = refl
 deals_law (suc (suc (suc (suc n)))) a b = rw (ne_eqb (suc (suc (suc (suc n)))) 1 (λ e. omega arith), ne_eqb (suc (suc (suc (suc n)))) 3 (λ e. omega arith))
+
+-- for this the header is enough
+pub gate_deals_law : (s : List ℕ) (c : Counts) (k t : ℕ) → Opened s c → t ≡ deals (kind_at s c.inputs k) → t ≡ dealing ((circuit s).gate k)
+gate_deals_law s c k t o m =
+    m ∙ deals_law (kind_at s c.inputs k) (first_at s c.inputs k) (second_at s c.inputs k)
+    ∙ ap (λ (n : ℕ). dealing (gate_of (kind_at s n k) (first_at s n k) (second_at s n k))) o.ins_are
+
+-- of the sites that two numbers stand for, too: they are those of `Site::of`
+pub number_law : (a b : Seated) → is (seat a) (seat b) ≡ eqb (number_of a) (number_of b)
+unfolding is
+number_law One One = refl
+number_law One Two = refl
+number_law One Three = refl
+number_law Two One = refl
+number_law Two Two = refl
+number_law Two Three = refl
+number_law Three One = refl
+number_law Three Two = refl
+number_law Three Three = refl
 
 pub owned_law : (o : ℕ) (s : Seated) → (1 ≤ o) × (o ≤ 3) → eqb o (number_of s) ≡ is (seat s) (site_of o)
 unfolding is site_of

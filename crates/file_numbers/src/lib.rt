@@ -1,7 +1,8 @@
 // Numbers in a slice, the lowest byte first, as a circuit file and a job have them; a copy of a slice.
 #![tactic(auto)]
 
-ghost use Rattle.std.specs.Prelude.{◌≡◌, ◌+◌, ◌≤◌, length};
+ghost use Rattle.std.specs.Prelude.{◌≡◌, ◌+◌, ◌≤◌, length, take};
+ghost use Rattle.theory_sharing.specs.Store.{fill};
 ghost use Rattle.theory_calls.specs.File.{le16, le32};
 
 // Two bytes and four, the lowest first.
@@ -21,10 +22,21 @@ pub fn u32_at(file: &[u8], at: usize) -> u32
     u32::from_le_bytes([file[at], file[at + 1], file[at + 2], file[at + 3]])
 }
 
-// A copy of a slice, into one as long: std's own, which stands here once so that a wrong copy can be tried on it.
+// The first n bytes of a slice, into the front of one as long. A loop and not std's `copy_from_slice`: that is compiled to a call of `memmove`,
+// which the library for C would newly need from outside.
+pub fn copy_first(from: &[u8], n: usize, to: &mut [u8])
+    requires { (n ≤ length from.now) × (length from.now ≡ length to.old) }
+    ensures { to.new ≡ fill to.old (take n from.now) }
+{
+    for k in 0..n {
+        to[k] = from[k];
+    }
+}
+
+// A copy of a slice, into one as long.
 pub fn copy(from: &[u8], to: &mut [u8])
     requires { length from.now ≡ length to.old }
     ensures { to.new ≡ from.now }
 {
-    to.copy_from_slice(from);
+    copy_first(from, from.len(), to);
 }

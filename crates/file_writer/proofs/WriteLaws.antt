@@ -1,7 +1,8 @@
 -- What holds of writing into a room.
 --     write_write      two pieces, one after the other, are one piece
 --     write_front      from place 0 on it is sharing's fill
---     write_none, write_one    nothing; one byte, which is a store
+--     write_none, write_one, write_two    nothing; one byte, which is a store; two
+--     word_turn                a word byte by byte
 --     Put, put_put     a writer's whole answer, what it left and the place after; two of them are one
 --     Filled           the same from the front;  put_filled, filled_put: one by the other
 -- Assumes nothing.
@@ -13,8 +14,8 @@ use native.Mathlib.Nat.{add_assoc, zero-add, add-zero}
 use native.Mathlib.Numerals.{add-one}
 use native.Mathlib.Omega.{arith}
 use lib.Dec.{leb}
-use lib.ListN.{length, take, drop, set, length-append, drop_of_length-le, take-append-drop}
-use lib.Seq.{take_at, take_all, drop-drop, drop-append-add, length-take-le, set_split}
+use lib.ListN.{length, get_or, take, drop, set, length-set, length-append, drop_of_length-le, take-append-drop}
+use lib.Seq.{take_at, take_all, drop-drop, drop-append-add, length-take-le, set_split, take-suc}
 use borrow.Author.Tests.{leb-true, leb-false}
 use Rattle.theory_sharing.specs.Store.{fill}
 use Rattle.file_writer.specs.Mirror.{write}
@@ -94,3 +95,21 @@ put_put at a b l m n r s p q = (
   q.0 ∙ ap₂ (λ k z. write k b z) p.1 p.0 ∙ write_write at a b l,
   q.1 ∙ ap (λ (k : ℕ). k + length b) p.1 ∙ add_assoc at (length a) (length b) ∙ ap (λ (k : ℕ). at + k) (sym (length-append a b)),
 )
+
+-- one byte more of a word
+pub word_turn : (at : ℕ) (w l m : List ℕ) (k : ℕ) → m ≡ write at (take k w) l → k < length w → at + k < length m
+    → set m (at + k) (get_or w k 0) ≡ write at (take (k + 1) w) l
+word_turn at w l m k e h g =
+    let n : length (take k w) ≡ k = length-take-le k w (omega arith) in
+    write_one (at + k) (get_or w k 0) m g
+    ∙ ap₂ (λ i z. write i (get_or w k 0 ∷ []) z) (ap (λ (j : ℕ). at + j) (sym n)) e
+    ∙ write_write at (take k w) (get_or w k 0 ∷ []) l
+    ∙ ap (λ z. write at z l) (sym (take-suc w k 0 h) ∙ ap (λ (j : ℕ). take j w) (sym (add-one k)))
+
+-- two bytes, one after the other
+pub write_two : (at a b : ℕ) (l : List ℕ) → at + 2 ≤ length l → set (set l at a) (at + 1) b ≡ write at (a ∷ b ∷ []) l
+write_two at a b l h =
+    let k : length (set l at a) ≡ length l = length-set l at a in
+    write_one (at + 1) b (set l at a) (omega arith)
+    ∙ ap (write (at + 1) (b ∷ [])) (write_one at a l (omega arith))
+    ∙ write_write at (a ∷ []) (b ∷ []) l

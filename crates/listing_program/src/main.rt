@@ -11,7 +11,7 @@ const STDIN_FILENO: i32 = 0;
 fn printed(listed: Result<usize, Refusal>, room: &mut [u8; 2624]) -> usize {
     match listed {
         Ok(n) => n,
-        Err(refusal) => listing_text::refused_text(room, refusal),
+        Err(refusal) => listing_text::refused_text(room, refusal.number(), refusal.place()),
     }
 }
 

@@ -5,11 +5,9 @@
 ghost use Rattle.std.specs.Prelude.{◌≡◌, ℕ, ◌+◌, ◌*◌, ◌<◌, ◌≤◌, ◌++◌, length};
 ghost use Rattle.theory_sharing.specs.Store.{fill};
 ghost use Rattle.theory_calls.specs.Listing.{decimal, word_out, out_lines, refused_text};
-ghost use Rattle.check_refusal.specs.Number.{number_of, place_of};
 ghost use Rattle.file_writer.specs.Mirror.{write};
 ghost use Rattle.listing_text.specs.Mirror.{line_of, counts_of, head_of, lines_of, shown_of, OneDigit};
 
-use check_refusal::Refusal;
 use file_header::Counts;
 
 // A number's digits. It calls itself for all but the last, as the definition does, so that no digit has to be turned round: at most 20 deep.
@@ -49,13 +47,15 @@ fn put_line(text: &mut [u8], at: usize, word: &[u8], n: usize, p: usize) -> usiz
     file_writer::put_bytes(text, b, b"\n")
 }
 
-// "A refusal prints only `refused N P`". 50 bytes hold any two numbers. Not by Refusal's Display: no clause of that says which bytes it writes.
-pub fn refused_text(text: &mut [u8], e: Refusal) -> usize
+// "A refusal prints only `refused N P`". 50 bytes hold any two numbers: not a refusal's alone, as whoever has only its numbers can print it too.
+// Not by Refusal's Display: no clause of that says which bytes it writes.
+#[tactic(auto, using(crate::proofs::TextLaws::line_refused))]
+pub fn refused_text(text: &mut [u8], number: usize, place: usize) -> usize
     requires { 50 ≤ length text.old }
-    ensures text_after { text.new ≡ fill text.old (refused_text (number_of e) (place_of e)) }
-    ensures value { result ≡ length (refused_text (number_of e) (place_of e)) }
+    ensures text_after { text.new ≡ fill text.old (refused_text number place) }
+    ensures value { result ≡ length (refused_text number place) }
 {
-    put_line(text, 0, b"refused ", e.number(), e.place())
+    put_line(text, 0, b"refused ", number, place)
 }
 
 // An output's line. It stands alone because a byte string in a loop would be one more thing to carry through its turns.

@@ -7,7 +7,7 @@ ghost use Rattle.theory_sharing.specs.Ops.{bits};
 ghost use Rattle.theory_sharing.specs.Circuit.{dealing};
 ghost use Rattle.theory_sharing.specs.Steps.{local};
 ghost use Rattle.theory_sharing.specs.Retape.{next_product};
-ghost use Rattle.theory_calls.specs.File.{circuit};
+ghost use Rattle.theory_calls.specs.File.{circuit, site_of};
 ghost use Rattle.check_tests.specs.Seat.{seat};
 ghost use Rattle.run_site.specs.Mirror.{put_at, two_at};
 ghost use Rattle.run_messages.specs.Mirror.{pair_of};
@@ -86,7 +86,7 @@ fn beyond(from: Places, t: usize) -> Places
 
 // o added to part 1, if the site holds it.
 #[tactic(auto, unfolding(crate::specs::Mirror::flipped))]
-pub fn flip(site: Site, o: u8, p: Two) -> Two
+pub fn flip_at(site: Site, o: u8, p: Two) -> Two
     ensures { result ≡ flipped (seat site) o p }
 {
     match site {
@@ -94,6 +94,13 @@ pub fn flip(site: Site, o: u8, p: Two) -> Two
         Site::Two => p,
         Site::Three => Two { y: p.y ^ o, ..p },
     }
+}
+
+// The same for a site's number, whatever it is: any but 1 and 2 stands for site 3.
+pub fn flip(site: usize, o: u8, p: Two) -> Two
+    ensures { result ≡ flipped (site_of site) o p }
+{
+    flip_at(Site::of(site), o, p)
 }
 
 // The site's own product of two wires.
@@ -162,15 +169,15 @@ fn and_gate(
         (st room.old moved.old (further from t)) }
 {
     let at = beyond(from, t);
-    let p = flip(site, o, pair_in(room, n, a));
-    let q = flip(site, o, pair_in(room, n, b));
+    let p = flip_at(site, o, pair_in(room, n, a));
+    let q = flip_at(site, o, pair_in(room, n, b));
     let u = room[a] ^ o;
     let v = room[b] ^ o;
     let y = room[n + a] ^ o;
     let z = room[n + b] ^ o;
     let m = mix(tapes, at, p, q, u, v, y, z);
     put_draws(moved, at.next, m.first, m.second);
-    let r = flip(site, o, m.pair);
+    let r = flip_at(site, o, m.pair);
     put_in(room, n, w, r);
     t + 2
 }
@@ -194,7 +201,7 @@ fn not_gate(site: Site, room: &mut [u8], n: usize, a: usize, w: usize)
     requires a_lt_w { (a < w) × (w < n) }
     ensures { room.new ≡ not_on (seat site) n a w room.old }
 {
-    let p = flip(site, 1, pair_in(room, n, a));
+    let p = flip_at(site, 1, pair_in(room, n, a));
     put_in(room, n, w, p);
 }
 

@@ -9,6 +9,7 @@ ghost use Rattle.run_messages.specs.Mirror.{objects_of, opened_of};
 use run_messages::{Held, Three};
 
 // A site's weight where its two copies are unlike. The sites are told as a sum of 1, 2 and 4, as document 01 has it and as callers in C read it.
+#[tactic(auto, using(crate::proofs::CopyLaws::copies_alike, crate::proofs::CopyLaws::copies_differ))]
 pub fn unlike(x: u8, y: u8, weight: usize) -> usize
     ensures value { result ≡ unlike (x, y) weight }
     ensures bound { result ≤ weight }

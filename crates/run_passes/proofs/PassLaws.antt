@@ -1,6 +1,6 @@
 -- What the proofs of the passes cite.
 --     lower_of, lower_up              a good gate reads lower wires
---     add_kind, flip_kind, deal_kind  the step that a kind's number means
+--     add_kind, flip_kind, deal_kind  the step that a kind's number means;  and_or_kind, and_or_lower: AND and OR together
 --     step_done, step_room            a step does what its gate does, and has the room that it wants
 --     placed_eq, one_more, in_pos_is  equal places; the places after one input more of one site
 -- Assumes nothing.
@@ -200,3 +200,21 @@ in_room_at file xs tapes line n x y k i r r' h e o q =
     let e4 : y.pos.at ≡ x.pos.at + 4 * k = ap (λ (z : Pos). z.at) m in
     let o1 = o.one in let o2 = o.two in let o3 = o.thr in let o4 = o.lin in let o5 = o.trn in let o6 = o.few_tapes in let o7 = o.few_line in
     ((omega arith, omega arith, omega arith, omega arith), (own_room (owner_at file k) y.pos (length tapes) (omega arith) (omega arith) (omega arith), omega arith, omega arith))
+
+-- a kind that is neither XOR nor NOT is AND or OR, and or_bit tells which: so what holds of both holds of it
+pub and_or_kind : {A : Type 0} (of-gate : Gate → A) (of-bit : ℕ → A) (kind a b o : ℕ) → (kind ≡ 1 → ⊥) → (kind ≡ 3 → ⊥) → o ≡ or_bit kind
+    → of-gate (AND a b) ≡ of-bit 0 → of-gate (OR a b) ≡ of-bit 1 → of-gate (gate_of kind a b) ≡ of-bit o
+unfolding gate_of or_bit
+and_or_kind f g zero a b o p q e x y = y ∙ ap g (sym e)
+and_or_kind f g (suc zero) a b o p q e x y = absurd (p refl)
+and_or_kind f g (suc (suc zero)) a b o p q e x y = x ∙ ap g (sym e)
+and_or_kind f g (suc (suc (suc zero))) a b o p q e x y = absurd (q refl)
+and_or_kind f g (suc (suc (suc (suc n)))) a b o p q e x y = y ∙ ap g (sym (e ∙ rw (ne_eqb (suc (suc (suc (suc n)))) 2 (λ h. omega arith)) refl))
+
+pub and_or_lower : (kind a b w : ℕ) → (kind ≡ 1 → ⊥) → (kind ≡ 3 → ⊥) → Lower (gate_of kind a b) w → (a < w) × (b < w)
+unfolding gate_of
+and_or_lower zero a b w p q h = h
+and_or_lower (suc zero) a b w p q h = absurd (p refl)
+and_or_lower (suc (suc zero)) a b w p q h = h
+and_or_lower (suc (suc (suc zero))) a b w p q h = absurd (q refl)
+and_or_lower (suc (suc (suc (suc n)))) a b w p q h = h

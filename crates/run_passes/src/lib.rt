@@ -7,7 +7,7 @@ ghost use Rattle.theory_calls.specs.File.{circuit, owner_at};
 ghost use Rattle.run_passes.specs.Mirror.{st, Small, next_pos, and_on, gate_on, step_by, Below, Room, gates_on, own_place, in_pos, input_on, inputs_on, InRoom};
 
 use file_reader::Circuit;
-use run_steps::Pos;
+pub use run_steps::Pos;
 
 // What the sites do at a gate: at an XOR they add, at a NOT they flip, at an AND (0) or OR (1) they deal.
 #[derive(Clone, Copy)]

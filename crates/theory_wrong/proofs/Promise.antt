@@ -2,16 +2,18 @@
 --     run_promises        what a caller of `run` learns is Meets, of the slices at entry (a), the answer (z) and the buffers at exit (e)
 --     traffic_promises    what a caller of `traffic_of` learns is TableMeets
 --     retape_promises, view_promises    what a caller of `retape` learns is TapeMeets, and of `view_of` ViewMeets
+--     meets_in_numbers, tape_meets_in_numbers    an engine meets its promise exactly where it meets it in numbers
 --     open_promises .. from_bristol_promises    what a caller of each other public function learns is its sentence about `does`
 -- So a contract that says less, or something else, fails here; those for C: PromiseForC.antt.
 -- Assumes nothing.
 use mathlib.Core.Path.{◌≡◌, refl}
-use mathlib.Core.List.{[], ◌∷◌}
+use mathlib.Core.List.{List, [], ◌∷◌}
+use Prim.Native.Nat.{ℕ}
 use contract.Lifetimes.{Lfts}
 use denote.Triple.Clauses.{AtExit}
 use borrow.Fn.Kinds.{Dens, res_t, ended_of}
-use Rattle.theory_wrong.specs.Engine.{Meets, TableMeets}
-use Rattle.theory_wrong.specs.Retaping.{TapeMeets, ViewMeets}
+use Rattle.theory_wrong.specs.Engine.{Lent, Engine, Meets, MeetsOn, in_numbers, NumberMeetsOn, TableMeets}
+use Rattle.theory_wrong.specs.Retaping.{TapeEngine, TapeMeets, TapeMeetsOn, tapes_in_numbers, NumberTapeMeetsOn, ViewMeets}
 use Rattle.run.proofs.run.Kinds as R
 use Rattle.run.proofs.run.Reads as RunReads
 use Rattle.traffic.proofs.traffic_of.Kinds as T
@@ -76,6 +78,14 @@ pub view_promises : (κs : Lfts 5) (a : Dens κs ViewKinds.ps) (z : (res_t ViewK
     ≡ ViewMeets a.0.now a.1.0.now a.1.1.0.now a.1.1.1.0 a.1.1.1.1.0.now a.1.1.1.1.1.0.now z
     e.1.1.1.1.0.now e.1.1.1.1.1.0.now
 view_promises κs a z e = refl
+
+pub meets_in_numbers : (engine : Engine) (file inputs tapes line : List ℕ) (b : Lent)
+    → NumberMeetsOn (in_numbers engine) file inputs tapes line b ≡ MeetsOn engine file inputs tapes line b
+meets_in_numbers engine file inputs tapes line b = refl
+
+pub tape_meets_in_numbers : (engine : TapeEngine) (file inputs tapes second : List ℕ) (site : ℕ) (fresh room : List ℕ)
+    → NumberTapeMeetsOn (tapes_in_numbers engine) file inputs tapes second site fresh room ≡ TapeMeetsOn engine file inputs tapes second site fresh room
+tape_meets_in_numbers engine file inputs tapes second site fresh room = refl
 
 pub open_promises : (κs : Lfts 1) (a : Dens κs OpenKinds.ps) (z : (res_t OpenKinds.r κs).Denot) (e : AtExit (ended_of 1 OpenKinds.ps OpenKinds.r) κs)
     → OpenReads.Learnt κs a z e

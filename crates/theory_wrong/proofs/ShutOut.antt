@@ -1,5 +1,6 @@
 -- The wrong engines of specs/Wrong.antt do not meet the promises, whatever the lent buffers held.
---     refusing_everything_fails    at every run that is accepted;  ..-on-K1: K1 is one, with buffers of the right lengths
+--     refusing_everything_fails    with any number and any place, at every run that is accepted;  ..-on-K1: K1 is one, with buffers of the right lengths
+--     refusing_everything_with_fails    so with each refusal of the code;  ..-on-K1
 --     writing_nothing_on_K1        it meets the promise on K1 exactly where the buffers held K1's results before
 --     writing_nothing_fails        so whatever they held, it fails on K1 or on inputs 1 0;  ..-on-one-byte: on K1, where they held one byte throughout
 --     fixed_bit_fails_on_K1, ..-on-1-0    a bit that is not 1 fails on K1, one that is not 0 on inputs 1 0
@@ -39,22 +40,33 @@ use Rattle.run.specs.declared.Ran.TheVariants.{Good}
 use Rattle.run.specs.Answers.{run_answer, run_after}
 use Rattle.theory_demands.specs.Marked.{K_file, K_tapes, K_line, K_store}
 use Rattle.theory_demands.proofs.Demands.{clean_opens_plain}
-use Rattle.theory_wrong.specs.Engine.{Lent, MeetsOn, OnK, OnK1, K1_outputs, K1_transcript, other_tapes, Long, TableMeetsOn}
-use Rattle.theory_wrong.specs.Wrong.{asked, refuses_everything, writes_nothing, opens_a_fixed_bit, FromPlain, gates_laid, gates_sent, copies_plain_values, bare, bare_bits, makes_up_a_table}
+use Rattle.theory_wrong.specs.Engine.{Lent, MeetsOn, OnK, OnK1, NumberMeetsOn, NumberOnK1, K1_outputs, K1_transcript, other_tapes, Long, TableMeetsOn}
+use Rattle.theory_wrong.specs.Wrong.{asked, refuses_everything, refuses_everything_with, writes_nothing, opens_a_fixed_bit, FromPlain, gates_laid, gates_sent, copies_plain_values, bare, bare_bits, makes_up_a_table}
 use Rattle.theory_wrong.proofs.Right.{K1_right, K1_only, opens_zeros, first_gate_bit}
 
 one_not_zero : ¬ ◌≡◌ {A = ℕ} 1 0
 one_not_zero e = omega arith
 
 -- 01: "Demand 2 shuts out an engine that refuses everything,"
-pub refusing_everything_fails : (e : Refusal) (file inputs tapes line : List ℕ) (b : Lent) → Accepts (asked file inputs tapes line b) → ¬ MeetsOn (refuses_everything e) file inputs tapes line b
-unfolding Accepts run_answer
-refusing_everything_fails e file inputs tapes line b a m = a (number_in e) (place_in e) (sym (ap (λ (z : After). z.answer) m))
+pub refusing_everything_fails : (n p : ℕ) (file inputs tapes line : List ℕ) (b : Lent) → Accepts (asked file inputs tapes line b)
+    → ¬ NumberMeetsOn (refuses_everything n p) file inputs tapes line b
+unfolding Accepts
+refusing_everything_fails n p file inputs tapes line b a m = a n p (sym (ap (λ (z : After). z.answer) m))
 
-pub refusing_everything_fails_on_K1 : (e : Refusal) (b : Lent) → Long b → ¬ OnK1 (refuses_everything e) b
+pub refusing_everything_fails_on_K1 : (n p : ℕ) (b : Lent) → Long b → ¬ NumberOnK1 (refuses_everything n p) b
 unfolding run_answer
-refusing_everything_fails_on_K1 e b h =
-    refusing_everything_fails e _ _ _ _ b (good_accepts _ [] (sym (ap (λ (z : After). z.answer) (K1_right b h))))
+refusing_everything_fails_on_K1 n p b h =
+    refusing_everything_fails n p _ _ _ _ b (good_accepts _ [] (sym (ap (λ (z : After). z.answer) (K1_right b h))))
+
+-- in numbers a refusal of the code is one of these
+pub refusing_everything_with_fails : (e : Refusal) (file inputs tapes line : List ℕ) (b : Lent) → Accepts (asked file inputs tapes line b)
+    → ¬ MeetsOn (refuses_everything_with e) file inputs tapes line b
+unfolding run_answer
+refusing_everything_with_fails e file inputs tapes line b a m = refusing_everything_fails (number_in e) (place_in e) file inputs tapes line b a m
+
+pub refusing_everything_with_fails_on_K1 : (e : Refusal) (b : Lent) → Long b → ¬ OnK1 (refuses_everything_with e) b
+unfolding run_answer
+refusing_everything_with_fails_on_K1 e b h m = refusing_everything_fails_on_K1 (number_in e) (place_in e) b h m
 
 -- "one that writes nothing,"
 pub writing_nothing_on_K1 : (b : Lent) → OnK1 writes_nothing b ↔ ((b.outputs ≡ K1_outputs) × (b.transcript ≡ K1_transcript) × (b.store ≡ K_store))

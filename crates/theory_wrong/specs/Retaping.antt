@@ -1,8 +1,10 @@
 -- Wrong re-tapings and wrong views, each a definition; proofs/RetapingShutOut.antt shows that it does not meet the promise.
 --     TapeEngine             a re-taping: from what it is given to its answer, the new tapes and the work room
 --     TapeMeets              the promise of `retape` (crates/retape/src/lib.rt), its one `ensures`;  TapeMeetsOn: an engine meets it on what it is given
+--     NumberTapeEngine       a re-taping that answers by 01's numbers, any two of them (Engine.antt);  tapes_in_numbers: a re-taping, its answer in numbers
+--     NumberTapeMeets, NumberTapeMeetsOn    the same promise of an answer in numbers; tape_meets_in_numbers (proofs/Promise.antt) says that it is
 --     hands_old_tapes_back   whatever it lays down in the work room
---     refuses_freely e       with this number and place
+--     refuses_freely n p     with this number and place;  refuses_freely_with e: with a refusal of the code
 --     ViewEngine, ViewMeets, ViewMeetsOn    the same for a view
 --     having                                the checks of a number
 --     in_order                              a call that makes its checks in another order, and is right in all else
@@ -15,7 +17,7 @@ use Rattle.theory_calls.specs.Checks.{Refusal, verdict}
 use Rattle.theory_calls.specs.Calls.{Call, View, Retape, settle, does}
 use Rattle.check_refusal.specs.declared.Refusal.{Refusal as Refused}
 use Rattle.check_refusal.specs.Number.{refusal_with}
-use Rattle.check_circuit.specs.Answers.{done_after}
+use Rattle.check_circuit.specs.Answers.{done_answer, done_after}
 
 -- what view and re-taping answer
 abbrev pub Answered : Type 0
@@ -32,13 +34,33 @@ TapeMeetsOn engine file inputs tapes second site fresh room =
     let z = engine file inputs tapes second site fresh room in
     TapeMeets file inputs tapes second site fresh room z.0 z.1 z.2
 
+abbrev pub NumberTapeEngine : Type 0
+NumberTapeEngine = (file inputs tapes second : List ℕ) → ℕ → (fresh room : List ℕ) → Answer × List ℕ × List ℕ
+
+abbrev pub tapes_in_numbers : TapeEngine → NumberTapeEngine
+tapes_in_numbers engine file inputs tapes second site fresh room =
+    let z = engine file inputs tapes second site fresh room in
+    (done_answer z.0, z.1, z.2)
+
+abbrev pub NumberTapeMeets : (file inputs tapes second : List ℕ) → ℕ → (fresh0 room0 : List ℕ) → Answer → (fresh room : List ℕ) → Type 0
+NumberTapeMeets file inputs tapes second site fresh0 room0 a fresh room =
+    record { answer = a; returned = []; lent = fresh ∷ room ∷ [] } ≡ does (Retape file inputs tapes second site fresh0 room0)
+
+abbrev pub NumberTapeMeetsOn : NumberTapeEngine → (file inputs tapes second : List ℕ) → ℕ → (fresh room : List ℕ) → Type 0
+NumberTapeMeetsOn engine file inputs tapes second site fresh room =
+    let z = engine file inputs tapes second site fresh room in
+    NumberTapeMeets file inputs tapes second site fresh room z.0 z.1 z.2
+
 -- 01: "Demand 3 shuts out handing the old tapes back,"
 abbrev pub hands_old_tapes_back : (List ℕ → List ℕ) → TapeEngine
 hands_old_tapes_back lays file inputs tapes second site fresh room = (Ok tt, tapes, lays room)
 
 -- "or refusing freely."
-abbrev pub refuses_freely : Refused → TapeEngine
-refuses_freely e file inputs tapes second site fresh room = (Err e, fresh, room)
+abbrev pub refuses_freely : ℕ → ℕ → NumberTapeEngine
+refuses_freely n p file inputs tapes second site fresh room = (refused n p, fresh, room)
+
+abbrev pub refuses_freely_with : Refused → TapeEngine
+refuses_freely_with e file inputs tapes second site fresh room = (Err e, fresh, room)
 
 -- a view as the promise of `view_of` (crates/view/src/lib.rt) sees it
 abbrev pub ViewEngine : Type 0

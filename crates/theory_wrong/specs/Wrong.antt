@@ -1,6 +1,6 @@
 -- The wrong engines of 01's "How far each statement goes", each a definition; proofs/ShutOut.antt shows that it does not meet the promise.
 -- Edits of the code that keep its shape make some of them in one way (run_copies' opens_a_fixed_bit, the wrong answer made-up-entry), the others not at all.
---     refuses_everything e       with this number and place
+--     refuses_everything n p     with this number and place;  refuses_everything_with e: with a refusal of the code
 --     writes_nothing             it says Good
 --     opens_a_fixed_bit v        v at every output and site; all else is right
 --     copies_plain_values        lays, sends: as what parts a gate's wire is laid down, and what is sent at a gate that deals
@@ -17,17 +17,21 @@ use Rattle.theory_sharing.specs.Tapes.{read}
 use Rattle.theory_sharing.specs.Line.{errors}
 use Rattle.theory_sharing.specs.Store.{fill}
 use Rattle.theory_sharing.specs.Store.{store as storing}
+use Rattle.theory_calls.specs.Answer.{refused}
 use Rattle.theory_calls.specs.File.{inputs_of, gates_of, outputs_of, circuit}
 use Rattle.theory_calls.specs.Plain.{plain}
 use Rattle.theory_calls.specs.Calls.{Call, Run, buffer, at_wire}
 use Rattle.theory_calls.specs.Statements.{bit_family, opened_plain}
 use Rattle.check_refusal.specs.declared.Refusal.{Refusal}
 use Rattle.run.specs.declared.Ran.TheVariants.{Good}
-use Rattle.theory_wrong.specs.Engine.{Lent, Engine, TableEngine}
+use Rattle.theory_wrong.specs.Engine.{Lent, Engine, NumberEngine, TableEngine}
 
 -- "an engine that refuses everything"
-abbrev pub refuses_everything : Refusal → Engine
-refuses_everything e file inputs tapes line b = (Err e, b)
+abbrev pub refuses_everything : ℕ → ℕ → NumberEngine
+refuses_everything n p file inputs tapes line b = (refused n p, b)
+
+abbrev pub refuses_everything_with : Refusal → Engine
+refuses_everything_with e file inputs tapes line b = (Err e, b)
 
 -- "one that writes nothing"
 abbrev pub writes_nothing : Engine

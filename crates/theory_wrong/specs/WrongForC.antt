@@ -75,15 +75,15 @@ retape_back = record {
 }
 
 -- A refusal of plain values, view or re-taping goes out as a place and a number: of each of them.
--- door_answers: `(e.number(), e.place())` → `(e.place(), e.number())`
+-- door_answers: `refused_told(e.number(), e.place())` → `refused_told(e.place(), e.number())`
 abbrev pub plain_refusal : WrongTold
 plain_refusal = record { call = Plain K_file (1 ∷ 2 ∷ []) (untouched 3); gives = answer 1 7 0; leaves = untouched 3 ∷ [] }
 
--- door_answers: `(e.number(), e.place())` → `(e.place(), e.number())`
+-- door_answers: `refused_told(e.number(), e.place())` → `refused_told(e.place(), e.number())`
 abbrev pub view_refusal : WrongTold
 view_refusal = record { call = View K_file (1 ∷ 1 ∷ []) K_tapes 4 (untouched 13) (untouched 18); gives = answer 0 11 0; leaves = untouched 13 ∷ untouched 18 ∷ [] }
 
--- door_answers: `(e.number(), e.place())` → `(e.place(), e.number())`
+-- door_answers: `refused_told(e.number(), e.place())` → `refused_told(e.place(), e.number())`
 abbrev pub retape_refusal : WrongTold
 retape_refusal = record { call = K_retape 3 (1 ∷ 1 ∷ []) (1 ∷ 0 ∷ []); gives = answer 2 13 0; leaves = (does (K_retape 3 (1 ∷ 1 ∷ []) (1 ∷ 0 ∷ []))).lent }
 
@@ -163,7 +163,7 @@ abbrev pub counts_exchanged : WrongStruct
 counts_exchanged = of_counts (record { number = 0; place = 0; inputs = 2; gates = 2; outputs = 2 }) (told_counts (does (Open two_outputs)).answer)
 
 -- "A refusal of open or check goes out as a place and a number."
--- door_answers: `(e.number(), e.place())` → `(e.place(), e.number())`
+-- door_answers: `counts_refused(e.number(), e.place())` → `counts_refused(e.place(), e.number())`
 abbrev pub counts_refusal : WrongStruct
 counts_refusal = of_counts (record { number = 0; place = 5; inputs = 0; gates = 0; outputs = 0 }) (told_counts (does (Check (K_with 0 2))).answer)
 
@@ -173,7 +173,7 @@ abbrev pub check_exchanged : WrongStruct
 check_exchanged = of_counts (record { number = 0; place = 0; inputs = 2; gates = 2; outputs = 2 }) (told_counts (does (Check two_outputs)).answer)
 
 -- "A refusal of open or check goes out as a place and a number.": of open
--- door_answers: `(e.number(), e.place())` → `(e.place(), e.number())`
+-- door_answers: `counts_refused(e.number(), e.place())` → `counts_refused(e.place(), e.number())`
 abbrev pub open_refusal : WrongStruct
 open_refusal = of_counts (record { number = 0; place = 3; inputs = 0; gates = 0; outputs = 0 }) (told_counts (does (Open (K_file ++ (0 ∷ [])))).answer)
 
@@ -184,7 +184,7 @@ abbrev pub gate_operands : WrongStruct
 gate_operands = of_gate (record { number = 0; place = 0; kind = 2; first = 1; second = 0 }) (told_gate (does (GateAt K_file 0)).answer)
 
 -- "A refused owner goes out as a place and a number."
--- door_answers: `(e.number(), e.place())` → `(e.place(), e.number())`
+-- door_answers: `owner_refused(e.number(), e.place())` → `owner_refused(e.place(), e.number())`
 abbrev pub owner_refusal : WrongStruct
 owner_refusal = of_owner (record { number = 2; place = 4; owner = 0 }) (told_owner (does (OwnerAt K_file 7)).answer)
 
@@ -194,7 +194,7 @@ abbrev pub owner_kept_at_refusal : WrongStruct
 owner_kept_at_refusal = of_owner (record { number = 4; place = 2; owner = 1 }) (told_owner (does (OwnerAt K_file 7)).answer)
 
 -- "A refused output goes out as a place and a number."
--- door_answers: `(e.number(), e.place())` → `(e.place(), e.number())`
+-- door_answers: `output_refused(e.number(), e.place())` → `output_refused(e.place(), e.number())`
 abbrev pub output_refusal : WrongStruct
 output_refusal = of_output (record { number = 1; place = 6; wire = 0 }) (told_output (does (OutputAt K_file 7)).answer)
 

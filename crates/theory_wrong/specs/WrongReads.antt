@@ -179,8 +179,8 @@ circuit_and_inputs_exchanged = record {
   gives = stopped_with (refused 1 0) (untouched 2624 ∷ []);
 }
 
--- A refused job's number and place change places: here 4 is refused at 14.
--- listing: `return Err(Refusal::Job(place));` → `return Err(Refusal::Owner(14));`
+-- A refused job's number and place change places; at place 0 they stay, as no check has the number 0.
+-- listing: `return Err(Refusal::Job(place));` → `return Err(match place { 4 => Refusal::Owner(14), 8 => Refusal::Tapes(14), 12 => Refusal::Second(14), _ => Refusal::Job(place) });`
 abbrev pub number_and_place_exchanged : Wrong
 number_and_place_exchanged = record {
   call = Listing (set K_job 4 17) (untouched 2624);

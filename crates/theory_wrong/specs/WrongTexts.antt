@@ -28,8 +28,9 @@ abbrev pub wide_text : List ℕ
 wide_text = 48 ∷ 32 ∷ 49 ∷ 48 ∷ 50 ∷ 53 ∷ 10 ∷ 49 ∷ 32 ∷ 49 ∷ 48 ∷ 50 ∷ 53 ∷ 10 ∷ 49 ∷ 32 ∷ 49 ∷ 10 ∷ []
 
 -- EQW makes a gate, AND of its wire with itself, and takes a number of its own.
--- bristol_wires: `Says::Eqw { x, z } => self.put_entry(z, self.entry(x)),` → `Says::Eqw { x, z } => self.put_gate(2, self.ours(x), self.ours(x), z),`
--- bristol_wires: `self.gated(self.made)` → `self.gated(more(self.made))`
+-- bristol_wires: `let e = entry(map, t.ins, x);` → `let p = ours(map, t.ins, x);`
+-- bristol_wires: `put_entry(map, z, e);` → `enter_gate(map, gates, t, 2, p, p, z);`
+-- bristol_wires: `t.gated(t.made)` → `t.gated(more(t.made))`
 abbrev pub eqw_makes_a_gate : Wrong
 eqw_makes_a_gate = record {
   call = FromBristol four_gates two_owners text_room;
@@ -62,7 +63,8 @@ written_twice_passes = record {
 
 -- Lines are counted from 0.
 -- bristol_pass: `pass.lines += 1;` → `pass.lines += 0;`
--- bristol_pass: `at = behind(text, line.end);` → `at = behind(text, line.end); pass.lines += 1;`
+-- bristol_pass: `t = bristol_wires::after(t, Some(line.says));` → `t = bristol_wires::after(t, Some(line.says)); pass.lines += 1;`
+-- bristol_pass: `continue;` → `pass.lines += 1; continue;`
 abbrev pub lines_counted_from_0 : Wrong
 lines_counted_from_0 = record {
   call = FromBristol (headed 1 3 (51 ∷ 32 ∷ 49 ∷ 32 ∷ 48 ∷ 32 ∷ 49 ∷ 32 ∷ 49 ∷ 32 ∷ 50 ∷ 32 ∷ 77 ∷ 65 ∷ 78 ∷ 68 ∷ 10 ∷ [])) two_owners text_room;
@@ -70,7 +72,7 @@ lines_counted_from_0 = record {
 }
 
 -- Another gate word on a line beyond the gates said is told as such a word.
--- bristol_wires: `_ if self.text.left == 0 => Err(Refusal::TextLine(line)),` → `Says::Other => Err(Refusal::GateWord(line)), _ if self.text.left == 0 => Err(Refusal::TextLine(line)),`
+-- bristol_wires: `_ if t.left == 0 => Err(Refusal::TextLine(line)),` → `Says::Other => Err(Refusal::GateWord(line)), _ if t.left == 0 => Err(Refusal::TextLine(line)),`
 abbrev pub unknown_word_beyond_the_gates : Wrong
 unknown_word_beyond_the_gates = record {
   call = FromBristol beyond two_owners text_room;
@@ -103,7 +105,7 @@ wire_at_the_count = record {
 }
 
 -- INV becomes XOR of its wire with itself, which is 0.
--- bristol_wires: `self.put_gate(3, self.ours(x), 0, z)` → `self.put_gate(1, self.ours(x), self.ours(x), z)`
+-- bristol_wires: `enter_gate(map, gates, t, 3, p, 0, z);` → `enter_gate(map, gates, t, 1, p, p, z);`
 abbrev pub inv_as_xor_with_itself : Wrong
 inv_as_xor_with_itself = record {
   call = FromBristol four_gates two_owners text_room;
@@ -119,8 +121,8 @@ inv_as_xor_with_itself = record {
 }
 
 -- Gates stand by the number of the wire that they write: the AND of wires 0 and 3, which writes 2, before the XOR that writes 3.
--- bristol_wires: `let made = self.text.made;` → `let made = z - self.text.ins;`
--- bristol_wires: `self.put_entry(z, self.text.next_entry());` → `self.put_entry(z, z as u16 + 1);`
+-- bristol_wires: `put_gate(gates, t.made, kind, a, b);` → `put_gate(gates, z - t.ins, kind, a, b);`
+-- bristol_wires: `put_entry(map, z, t.next_entry());` → `put_entry(map, z, z as u16 + 1);`
 abbrev pub gates_by_wire_number : Wrong
 gates_by_wire_number = record {
   call = FromBristol downwards two_owners text_room;
@@ -136,7 +138,7 @@ gates_by_wire_number = record {
 }
 
 -- Outputs are the lowest wires.
--- bristol_file: `for w in wires - numbering.text.outs..wires {` → `for w in wires - wires..numbering.text.outs {`
+-- bristol_file: `for w in t.wires - t.outs..t.wires {` → `for w in t.wires - t.wires..t.outs {`
 abbrev pub outputs_the_lowest : Wrong
 outputs_the_lowest = record {
   call = FromBristol (headed 1 3 xor_line) two_owners text_room;
@@ -160,7 +162,7 @@ four_behind_two = record {
 }
 
 -- The byte behind the file is cleared.
--- bristol: `Ok(bristol_file::put_file(room, text, pass.seat, owners, &numbering))` → `let n = bristol_file::put_file(room, text, pass.seat, owners, &numbering); room[n] = 0; Ok(n)`
+-- bristol: `Ok(bristol_file::put_numbered(room, text, pass.seat, owners, &numbering))` → `let n = bristol_file::put_numbered(room, text, pass.seat, owners, &numbering); room[n] = 0; Ok(n)`
 abbrev pub byte_behind_the_file_cleared : Wrong
 byte_behind_the_file_cleared = record {
   call = FromBristol four_gates two_owners text_room;
@@ -169,7 +171,7 @@ byte_behind_the_file_cleared = record {
 
 -- The room is looked at last: it is empty, and line 1 has a number of six digits.
 -- bristol: `if room.len() != 20000 {` → `if 20000 != 20000 {`
--- bristol: `Ok(bristol_file::put_file(` → `if room.len() != 20000 { return Err(Refusal::Buffer(0)); } Ok(bristol_file::put_file(`
+-- bristol: `Ok(bristol_file::put_numbered(` → `if room.len() != 20000 { return Err(Refusal::Buffer(0)); } Ok(bristol_file::put_numbered(`
 abbrev pub ten_last : Wrong
 ten_last = record {
   call = FromBristol (48 ∷ 48 ∷ 48 ∷ 48 ∷ 48 ∷ 49 ∷ 32 ∷ 51 ∷ 10 ∷ []) [] [];

@@ -10,7 +10,7 @@ pub fn listed(job: &[u8]) {
     answered(answer.map(|_| []));
     let n = match answer {
         Ok(n) => n,
-        Err(refusal) => listing_text::refused_text(&mut text, refusal),
+        Err(refusal) => listing_text::refused_text(&mut text, refusal.number(), refusal.place()),
     };
     if n <= 2624 {
         print::lines(&text[..n]);

@@ -1,4 +1,7 @@
 // Bytes, numbers and slices from standard input. Where the stream ends in the middle of a call, or a slice has no room, the line that says so is printed here, and the answer is None: the program ends.
+ghost use Rattle.std.specs.Prelude.{length, IfSome};
+ghost use Rattle.io.specs.Counts.{IsPrefixLen};
+
 use crate::print;
 
 // The number of standard input.
@@ -23,8 +26,10 @@ pub fn number() -> Option<usize> {
     Some(u32::from_le_bytes(four) as usize)
 }
 
-// A slice: its length, and that many bytes, which are put at the start of `room`. That start is the answer.
-pub fn slice(room: &mut [u8]) -> Option<&mut [u8]> {
+// A slice: its length, and that many bytes, which are put at the start of `room`. That start is the answer, so it is no longer than the room.
+pub fn slice(room: &mut [u8]) -> Option<&mut [u8]>
+    ensures { IfSome result (λ s. IsPrefixLen (length s.now) room.old) }
+{
     let n = number()?;
     if n > room.len() {
         print::word(b"slice too long\n");

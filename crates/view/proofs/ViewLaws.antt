@@ -1,15 +1,16 @@
 -- What the proofs of a view cite.
 --     view_sizes              how long the two buffers are to be, by what is counted
+--     fill_part               a part of a buffer that is filled from the front is back
 --     by_base, place_base     the site's tape, in the one slice
 --     tape_fits, in_order     how long the four parts are
 --     whole                   the four parts together are the document's view
 -- Assumes nothing.
-use mathlib.Core.Path.{◌≡◌, refl, sym, ap, ◌∙◌}
+use mathlib.Core.Path.{◌≡◌, refl, sym, ap, ap₂, ◌∙◌}
 use mathlib.Core.List.{List, [], ◌∷◌, ◌++◌, append_assoc}
 use Prim.Native.Nat.{ℕ, ◌+◌, ◌*◌, ◌-◌, ◌≤◌}
 use native.Mathlib.Omega.{arith}
-use lib.ListN.{length, take, drop, length-drop}
-use lib.Seq.{take_all}
+use lib.ListN.{length, take, drop, length-append, length-drop}
+use lib.Seq.{take_at, drop_at, drop-drop, take_all}
 use Rattle.theory_sharing.specs.Ops.{bits}
 use Rattle.theory_sharing.specs.Sites.{Site, s1, s2, s3, of}
 use Rattle.theory_sharing.specs.Circuit.{Circuit, ands, all_ands, owned, all_owned}
@@ -33,7 +34,7 @@ use Rattle.view_parts.specs.Mirror.{opened_all}
 use Rattle.view_parts.proofs.DeliveredLaws.{opened_are}
 use Rattle.theory_sharing.specs.Circuit.{no_errors}
 use Rattle.theory_sharing.specs.Run.{after}
-use Rattle.theory_sharing.specs.Store.{store}
+use Rattle.theory_sharing.specs.Store.{fill, store}
 use Rattle.theory_sharing.specs.Tapes.{tape}
 use Rattle.theory_sharing.proofs.ViewLaws.{totals_many}
 use Rattle.view.specs.Mirror.{Ready}
@@ -130,3 +131,14 @@ module _ (f xs tapes : List ℕ) (s : Site) (c : Counts) (op : Opened f c) (l : 
       sym (append_assoc (y1 ++ y2) y3 y4 ∙ append_assoc y1 y2 (y3 ++ y4))
       ∙ (λ i. e1 i ++ tape i ++ e3 i ++ (e4 ∙ opened_back w last ew el) i)
       ∙ sym (view_is bit_group s D (at_wire xs) tapes l (bit_draws (read D tapes)))
+
+-- a part is back, behind what was filled so far
+pub fill_part : (old done ys l : List ℕ) (a e : ℕ) → l ≡ fill old done → length done ≡ a → length ys ≡ e - a
+    → take a l ++ (ys ++ drop (e - a) (drop a l)) ≡ fill old (done ++ ys)
+unfolding fill
+fill_part old done ys l a e q ld ly =
+    let n = length-append done ys in
+    ap (λ (z : List ℕ). take a z ++ (ys ++ drop (e - a) (drop a z))) q
+    ∙ ap₂ (λ (u w : List ℕ). u ++ (ys ++ drop (e - a) w)) (take_at done (drop (length done) old) a ld) (drop_at done (drop (length done) old) a ld)
+    ∙ ap (λ (w : List ℕ). done ++ (ys ++ w)) (drop-drop (e - a) (length done) old ∙ ap (λ (k : ℕ). drop k old) (let m : length done + (e - a) ≡ length (done ++ ys) = omega arith in m))
+    ∙ sym (append_assoc done ys (drop (length (done ++ ys)) old))

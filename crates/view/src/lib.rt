@@ -2,6 +2,7 @@
 #![tactic(auto)]
 
 ghost use Rattle.std.specs.Prelude.{◌≡◌, [], ◌∷◌, length, IfOk};
+ghost use Rattle.theory_calls.specs.File.{site_of};
 ghost use Rattle.theory_calls.specs.Checks.{verdict};
 ghost use Rattle.theory_calls.specs.Calls.{View, does};
 ghost use Rattle.theory_calls.specs.AtBits.{clean_store, view_on};
@@ -57,7 +58,7 @@ fn tape_place(pos: Pos, site: Site) -> usize
 }
 
 // Behind all checks: the four parts of the view, each lent its own part of the buffer. What is behind 1 to 6 asks it.
-pub fn view_checked(
+pub fn view_at(
     c: &Counted<'_>,
     inputs: &[u8],
     tapes: &[u8],
@@ -85,6 +86,22 @@ pub fn view_checked(
     view_parts::opened_bits(&c.circuit, store, opened, site);
 }
 
+// The same for a site's number, whatever it is: any but 1 and 2 stands for site 3.
+pub fn view_checked(
+    c: &Counted<'_>,
+    inputs: &[u8],
+    tapes: &[u8],
+    site: usize,
+    view: &mut [u8],
+    store: &mut [u8],
+)
+    requires { Ready c.now.circuit.file.now c.now.circuit.counts (site_of site) (length inputs.now) (length tapes.now) (length view.old) (length store.old) }
+    ensures view_after { view.new ≡ view_on c.now.circuit.file.now inputs.now tapes.now site }
+    ensures store_after { store.new ≡ clean_store c.now.circuit.file.now inputs.now tapes.now }
+{
+    view_at(c, inputs, tapes, Site::of(site), view, store);
+}
+
 // Behind checks 1 to 6: A is counted, 7, 8, 11 and 10 are made, then the view. The public view asks it, and any other form of a view that has
 // its circuit checked first.
 pub fn view_opened(
@@ -100,7 +117,7 @@ pub fn view_opened(
 {
     let counted = Counted::from(*c);
     let seat = given(&counted, inputs, tapes, site, view.len(), store.len())?;
-    view_checked(&counted, inputs, tapes, seat, view, store);
+    view_at(&counted, inputs, tapes, seat, view, store);
     Ok(())
 }
 

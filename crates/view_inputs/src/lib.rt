@@ -20,19 +20,21 @@ use run_steps::Pos;
 pub fn held_by(h: Held, site: Site) -> Two
     ensures { result ≡ pair_of_site (seat site) h }
 {
-    match site {
-        Site::One => Two {
+    if site == Site::One {
+        return Two {
             x: h.p1.x,
             y: h.p1.y,
-        },
-        Site::Two => Two {
+        };
+    }
+    if site == Site::Two {
+        return Two {
             x: h.p2.x,
             y: h.p2.y,
-        },
-        Site::Three => Two {
-            x: h.p3.x,
-            y: h.p3.y,
-        },
+        };
+    }
+    Two {
+        x: h.p3.x,
+        y: h.p3.y,
     }
 }
 

@@ -31,24 +31,27 @@ pub fn own_inputs(c: &Circuit<'_>, inputs: &[u8], part: &mut [u8], site: Site)
     }
 }
 
-// Of the six bits of an opening, the two that reach the site: both copies of the part that it lacks.
+// Of the six bits of an opening, the two that reach the site: both copies of the part that it lacks. By `if`, here and in `held_by`: a `match` on the
+// site is not taken out of the loops over the outputs, and a view of a circuit of few wires and 256 outputs took half as long again, and more.
 #[tactic(auto, unfolding(crate::specs::Mirror::copies_of_site))]
 fn copies_of_site(h: Held, site: Site) -> Two
     ensures { result ≡ copies_of_site (seat site) h }
 {
-    match site {
-        Site::One => Two {
+    if site == Site::One {
+        return Two {
             x: h.p2.y,
             y: h.p3.x,
-        },
-        Site::Two => Two {
+        };
+    }
+    if site == Site::Two {
+        return Two {
             x: h.p1.x,
             y: h.p3.y,
-        },
-        Site::Three => Two {
-            x: h.p1.y,
-            y: h.p2.x,
-        },
+        };
+    }
+    Two {
+        x: h.p1.y,
+        y: h.p2.x,
     }
 }
 

@@ -9,7 +9,7 @@ pub returns-in_err-pass : goal.returns-in_err-pass
 returns-in_err-pass c =
     let n = c.new-numbering.ensures in
     let p = err_from_is_err_and c.from_residual.result c.from_residual.ensures.1 in
-    rw (p.1, p.2) (line_refused c.args.text.now c.args.owners.now c.args.room.now c.if-room-ne20000.false _ n.map n.gates n.text _ c.in_err-pass.ensures.told)
+    rw (p.1, p.2) (line_refused c.args.text.now c.args.owners.now c.args.room.now c.if-room-ne20000.false _ n.map n.gates n.text _ c.in_err-pass.ensures.told.0)
 
 pub rest_check-requires : goal.rest_check-requires
 rest_check-requires c =
@@ -23,17 +23,17 @@ returns-in_err-rest_check c =
     rw (p.1, p.2)
     (rest_refused c.args.text.now c.args.owners.now c.args.room.now c.if-room-ne20000.false _ n.map n.gates n.text c.in_ok-pass.pass _ c.in_ok-pass.ensures.told _ c.rest_check.ensures _ c.in_err-rest_check.was)
 
-pub put_file-requires-clause-few : goal.put_file-requires-clause-few
-put_file-requires-clause-few c =
+pub put_numbered-requires-clause-few : goal.put_numbered-requires-clause-few
+put_numbered-requires-clause-few c =
     let n = c.new-numbering.ensures in
     limits c.args.text.now c.args.owners.now c.args.room.now c.if-room-ne20000.false _ n.map n.gates n.text c.in_ok-pass.pass _ c.in_ok-pass.ensures.told _ c.rest_check.ensures c.in_ok-rest_check.ensures
 
-pub put_file-requires-clause-seated : goal.put_file-requires-clause-seated
-put_file-requires-clause-seated c =
+pub put_numbered-requires-clause-seated : goal.put_numbered-requires-clause-seated
+put_numbered-requires-clause-seated c =
     let n = c.new-numbering.ensures in
     seated c.args.text.now c.args.owners.now c.args.room.now c.if-room-ne20000.false _ n.map n.gates n.text c.in_ok-pass.pass _ c.in_ok-pass.ensures.told _ c.rest_check.ensures c.in_ok-rest_check.ensures
 
 pub returns : goal.returns
 returns c =
     let n = c.new-numbering.ensures in
-    filed c.args.text.now c.args.owners.now c.args.room.now c.if-room-ne20000.false _ n.map n.gates n.text c.in_ok-pass.pass _ c.in_ok-pass.ensures.told _ c.rest_check.ensures c.in_ok-rest_check.ensures _ _ c.put_file.ensures.room_after c.put_file.ensures.value
+    filed c.args.text.now c.args.owners.now c.args.room.now c.if-room-ne20000.false _ n.map n.gates n.text c.in_ok-pass.pass _ c.in_ok-pass.ensures.told _ c.rest_check.ensures c.in_ok-rest_check.ensures _ _ c.put_numbered.ensures.room_after c.put_numbered.ensures.value

@@ -11,7 +11,8 @@ use Rattle.bristol_checks.proofs.outputs_written.Goals as goal
 
 pub returns : goal.returns
 returns c =
-    let n = c.args.numbering.now in
-    let none = λ (w : ℕ). eqb (entry_of n.map n.text.ins w) 0 in
+    let m = c.args.map.now in
+    let t = c.args.t in
+    let none = λ (w : ℕ). eqb (entry_of m t.ins w) 0 in
     let found = first_from_Range _ _ _ _ (λ w. none w ≡ true) (λ w. none w ≡ false) c.find.ensures.ran (λ x q h. search rules) (λ x q h. search rules) in
-    outs_said n.map n.text.ins (n.text.wires - n.text.outs) n.text.wires n.text.outs (omega arith) _ found _ c.is_none.ensures
+    outs_said m t.ins (t.wires - t.outs) t.wires t.outs (omega arith) _ found _ c.is_none.ensures

@@ -1,5 +1,4 @@
 use native.Mathlib.Omega.{arith}
-use borrow.Author.Rules.{rules}
 use Rattle.bristol_file.proofs.WholeFile.{seat_widths, seat_total, file_put, few_gates, gates_cut}
 use Rattle.bristol_file.proofs.put_file.Goals as goal
 
@@ -11,20 +10,20 @@ put_owners-b-requires-clause-room_long c = let e = seat_total _ _ _ _ _ c.next_w
 
 pub put_bytes-c-requires : goal.put_bytes-c-requires
 put_bytes-c-requires c =
-    let cut = gates_cut c.args.numbering.now.text.made c.args.numbering.now.gates c.requires.few.gates (search rules) in
+    let cut = gates_cut c.args.t.made c.args.gates.now c.requires.few.gates c.requires.gates_long in
     let e = seat_total _ _ _ _ _ c.next_word-values.ensures c.requires.seated in
     omega arith
 
 pub put_outputs-requires-clause-room_long : goal.put_outputs-requires-clause-room_long
 put_outputs-requires-clause-room_long c =
-    let cut = gates_cut c.args.numbering.now.text.made c.args.numbering.now.gates c.requires.few.gates (search rules) in
+    let cut = gates_cut c.args.t.made c.args.gates.now c.requires.few.gates c.requires.gates_long in
     let e = seat_total _ _ _ _ _ c.next_word-values.ensures c.requires.seated in
     omega arith
 
 pub returns : goal.returns
 returns c =
     let e =
-    file_put _ _ _ _ _ c.next_word-values.ensures c.requires.seated c.args.numbering.now.map c.args.numbering.now.gates (few_gates _ c.args.numbering.now.gates c.requires.few.gates (search rules)) _ _ _ _ _ _ _ _ _
+    file_put _ _ _ _ _ c.next_word-values.ensures c.requires.seated c.args.map.now c.args.gates.now (few_gates _ c.args.gates.now c.requires.few.gates c.requires.gates_long) _ _ _ _ _ _ _ _ _
     (c.put_header-a.ensures.room_after, c.put_header-a.ensures.value) (c.put_owners-b.ensures.room_after, c.put_owners-b.ensures.value)
     (c.put_bytes-c.ensures.to_after, c.put_bytes-c.ensures.value) (c.put_outputs.ensures.room_after, c.put_outputs.ensures.value) in
     record { room_after = e.0; value = e.1 }

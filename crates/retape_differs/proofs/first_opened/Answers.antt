@@ -1,10 +1,12 @@
-use Rattle.std.proofs.Common.{◌≡◌, rules, true, false}
-use Rattle.std.proofs.lemmas.Iterator.{first_from_Range}
-use Rattle.check_refusal.proofs.FoundLaws.{found_first}
-use Rattle.retape_differs.specs.Mirror.{opened_differs}
+use Rattle.theory_sharing.proofs.FirstLaws.{clear_none}
+use Rattle.check_refusal.proofs.FoundLaws.{hit_is, end_is}
 use Rattle.retape_differs.proofs.first_opened.Goals as goal
 
+pub loop-k-init : goal.loop-k-init
+loop-k-init c = clear_none _
+
+pub returns-then-opened_bad : goal.returns-then-opened_bad
+returns-then-opened_bad c = hit_is _ _ _ _ c.loop-k.invariant c.loop-k-test.true c.opened_bad.ensures c.if-opened_bad.true
+
 pub returns : goal.returns
-returns c =
-    let bad = opened_differs c.args.c.now.file.now c.args.c.now.counts.inputs c.args.c.now.counts.gates c.args.room.now in
-    found_first bad _ _ (first_from_Range _ _ _ _ (λ k. bad k ≡ true) (λ k. bad k ≡ false) c.find.ensures.ran (λ x q h. search rules) (λ x q h. search rules))
+returns c = end_is _ _ _ c.loop-k.invariant c.loop-k.auto.k-end c.loop-k-test.false

@@ -17,5 +17,5 @@ put_draws-requires c =
 pub returns : goal.returns
 returns c =
     let a = c.args in
-    and_law _ _ _ _ a.n a.a a.b a.w a.o a.room.now a.moved.now a.from a.t _ _ _ _ _ _ _ _ _ c.beyond-at.ensures c.pair_in.ensures c.pair_in-2.ensures c.flip-p.ensures c.flip-q.ensures
-    c.mix-m.ensures c.put_draws.ensures c.flip-r.ensures c.put_in.ensures
+    and_law _ _ _ _ a.n a.a a.b a.w a.o a.room.now a.moved.now a.from a.t _ _ _ _ _ _ _ _ _ c.beyond-at.ensures c.pair_in.ensures c.pair_in-2.ensures c.flip_at-p.ensures c.flip_at-q.ensures
+    c.mix-m.ensures c.put_draws.ensures c.flip_at-r.ensures c.put_in.ensures

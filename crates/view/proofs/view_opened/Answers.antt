@@ -13,8 +13,8 @@ returns-in_err-seat c =
     let p = err_from_is_err_and c.from_residual.result c.from_residual.ensures.1 in
     rw (p.1, p.2, ← c.from-counted.ensures) (done_given _ _ _ _ _ (front _ _ _ _ _ _) c.from-counted.result.circuit.checked.passes _ c.in_err-seat.ensures.checks)
 
-pub view_checked-requires : goal.view_checked-requires
-view_checked-requires c =
+pub view_at-requires : goal.view_at-requires
+view_at-requires c =
     let a = c.args in
     let k = c.from-counted.result.circuit in
     let r = ready k.file.now a.inputs.now a.tapes.now a.site a.view.now a.store.now _ k.checked c.in_ok-seat.ensures.checks in
@@ -23,5 +23,5 @@ view_checked-requires c =
 
 pub returns : goal.returns
 returns c =
-    let v = rw (← c.in_ok-seat.ensures.seated) at c.view_checked.ensures.view_after in
-    rw (← c.from-counted.ensures) (accepted_view _ _ _ _ _ _ _ c.from-counted.result.circuit.checked c.in_ok-seat.ensures.checks _ _ v c.view_checked.ensures.store_after)
+    let v = rw (← c.in_ok-seat.ensures.seated) at c.view_at.ensures.view_after in
+    rw (← c.from-counted.ensures) (accepted_view _ _ _ _ _ _ _ c.from-counted.result.circuit.checked c.in_ok-seat.ensures.checks _ _ v c.view_at.ensures.store_after)

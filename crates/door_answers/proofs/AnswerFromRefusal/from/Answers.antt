@@ -1,7 +1,7 @@
-use Rattle.theory_calls.specs.Answer.{number_of, place_of}
-use Rattle.door_answers.specs.Told.{sites_of}
+use mathlib.Core.Path.{◌∙◌}
+use Rattle.theory_calls.specs.Answer.{refused}
+use Rattle.door_answers.specs.Told.{told}
 use Rattle.door_answers.proofs.AnswerFromRefusal.from.Goals as goal
 
 pub returns : goal.returns
-unfolding number_of place_of sites_of
-returns c = λ i. record { number = (c.numbers-number.ensures i).0; place = (c.numbers-number.ensures i).1; sites = 0 }
+returns c = c.refused_told.ensures ∙ (λ i. told (refused (c.number.ensures i) (c.place.ensures i)))

@@ -1,7 +1,7 @@
 use mathlib.Core.Path.{sym, ap, ◌∙◌}
 use Rattle.file_header.specs.declared.Counts.{Counts}
 use Rattle.std.specs.Prelude.{Result}
-use Rattle.theory_calls.specs.Answer.{number_of, place_of}
+use Rattle.theory_calls.specs.Answer.{refused, number_of, place_of}
 use Rattle.check_refusal.specs.declared.Refusal.{Refusal}
 use Rattle.file_header.specs.Answers.{header_answer}
 use Rattle.door_answers.specs.Told.{value_of, told_counts}
@@ -14,5 +14,5 @@ returns-in-Ok c = sym (ap (λ (x : Result Counts Refusal). told_counts (header_a
 pub returns-in-Err : goal.returns-in-Err
 unfolding number_of place_of value_of header_answer
 returns-in-Err c =
-    (λ i. record { number = (c.numbers-number.ensures i).0; place = (c.numbers-number.ensures i).1; inputs = 0; gates = 0; outputs = 0 })
+    c.counts_refused.ensures ∙ (λ i. told_counts (refused (c.number.ensures i) (c.place.ensures i)))
     ∙ sym (ap (λ (x : Result Counts Refusal). told_counts (header_answer x)) c.in-Err.is)

@@ -1,7 +1,7 @@
 use mathlib.Core.Path.{sym, ap, ◌∙◌}
 use Prim.Native.Nat.{ℕ}
 use Rattle.std.specs.Prelude.{Result}
-use Rattle.theory_calls.specs.Answer.{number_of, place_of}
+use Rattle.theory_calls.specs.Answer.{refused, number_of, place_of}
 use Rattle.check_refusal.specs.declared.Refusal.{Refusal}
 use Rattle.file_parts.specs.Answers.{owner_answer}
 use Rattle.door_answers.specs.Told.{value_of, told_owner}
@@ -14,5 +14,5 @@ returns-in-Ok c = sym (ap (λ (x : Result ℕ Refusal). told_owner (owner_answer
 pub returns-in-Err : goal.returns-in-Err
 unfolding number_of place_of value_of owner_answer
 returns-in-Err c =
-    (λ i. record { number = (c.numbers-number.ensures i).0; place = (c.numbers-number.ensures i).1; owner = 0 })
+    c.owner_refused.ensures ∙ (λ i. told_owner (refused (c.number.ensures i) (c.place.ensures i)))
     ∙ sym (ap (λ (x : Result ℕ Refusal). told_owner (owner_answer x)) c.in-Err.is)

@@ -1,0 +1,12 @@
+use Rattle.theory_sharing.proofs.FirstLaws.{clear_none}
+use Rattle.check_refusal.proofs.FoundLaws.{hit_is, end_is}
+use Rattle.retape_differs.proofs.first_own_at.Goals as goal
+
+pub loop-k-init : goal.loop-k-init
+loop-k-init c = clear_none _
+
+pub returns-then-own_bad : goal.returns-then-own_bad
+returns-then-own_bad c = hit_is _ _ _ _ c.loop-k.invariant c.loop-k-test.true c.own_bad.ensures c.if-own_bad.true
+
+pub returns : goal.returns
+returns c = end_is _ _ _ c.loop-k.invariant c.loop-k.auto.k-end c.loop-k-test.false
