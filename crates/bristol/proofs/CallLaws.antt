@@ -34,7 +34,6 @@ use Rattle.bristol_text.specs.Good.{Good}
 use Rattle.bristol_text.proofs.GoodText.{accepted_good}
 use Rattle.bristol_text.proofs.Sane.{Sane}
 use Rattle.bristol_words.specs.Mirror.{words_at}
-use Rattle.bristol_text.specs.Told.{header_lines}
 use Rattle.bristol_wires.specs.declared.Text.{Text}
 use Rattle.bristol_wires.specs.declared.Numbering.{Numbering}
 use Rattle.bristol_wires.specs.Mirror.{nothing_read}
@@ -130,7 +129,7 @@ module _ (text owners room : List ℕ) where
         rest_is : rest_verdict p.lines t b.map owners ≡ verdict (text_checks ls owners)
         unfolding rest_verdict text_checks
         rest_is =
-            let whole : (not (eqb (header_lines t.stage) 3) || not (eqb t.left 0)) ≡ not (complete h) = neither (eqb (header_lines t.stage) 3) (eqb t.left 0) ∙ ap not (complete_is h t _ b.map b.gates match) in
+            let whole : (not (eqb t.stage 3) || not (eqb t.left 0)) ≡ not (complete h) = neither (eqb t.stage 3) (eqb t.left 0) ∙ ap not (complete_is h t _ b.map b.gates match) in
             let outs : all_written h (count_up (t.wires - t.outs) t.outs) ≡ all_written h (out_wires h) = rw (match.wires, match.outs) in
             let wrote = all_written_is h t _ b.map b.gates match (count_up (t.wires - t.outs) t.outs) ∙ outs in
             rw (whole, wrote, line_is, given_same)

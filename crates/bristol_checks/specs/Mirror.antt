@@ -5,7 +5,6 @@ use Rattle.std.specs.Prelude.{Bool, not, cond, ◌||◌, List, [], ◌∷◌, �
 use Rattle.theory_calls.specs.Checks.{Refusal, refusal, limits_row, Verdict, refuses, verdict}
 use Rattle.bristol_text.specs.Heard.{count_up}
 use Rattle.bristol_text.specs.Call.{row_values}
-use Rattle.bristol_text.specs.Told.{header_lines}
 use Rattle.bristol_wires.specs.declared.Text.{Text}
 use Rattle.bristol_laws.specs.Matches.{all_entered}
 
@@ -17,5 +16,5 @@ given_checks t os = refusal 4 (row_values os t.values) ∷ refusal 2 (limits_row
 
 unfoldable pub rest_verdict : ℕ → Text → List ℕ → List ℕ → Verdict
 rest_verdict n t m os =
-    cond (not (eqb (header_lines t.stage) 3) || not (eqb t.left 0)) (refuses 15 n)
+    cond (not (eqb t.stage 3) || not (eqb t.left 0)) (refuses 15 n)
     (cond (not (outs_entered m t)) (refuses 17 n) (verdict (given_checks t os)))

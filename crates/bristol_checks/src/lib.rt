@@ -7,7 +7,6 @@ ghost use Rattle.check_refusal.specs.Found.{found, some_below};
 ghost use Rattle.bristol_text.specs.Call.{row_values};
 ghost use Rattle.bristol_checks.specs.Mirror.{outs_entered, given_checks, rest_verdict};
 
-use bristol_text::Stage;
 use bristol_wires::{Numbering, Text};
 use check_refusal::Refusal;
 
@@ -59,7 +58,7 @@ pub fn rest_fault(lines: usize, t: Text, map: &[u16], owners: &[u8]) -> Result<(
     requires { t.outs ≤ t.wires }
     ensures { found result ≡ rest_verdict lines t map.now owners.now }
 {
-    let (Stage::Gates, 0) = (t.stage, t.left) else {
+    let (3, 0) = (t.stage, t.left) else {
         return Err(Refusal::TextLine(lines));
     };
     if !outputs_written(map, t) {

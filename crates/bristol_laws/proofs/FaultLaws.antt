@@ -17,7 +17,7 @@ use Rattle.bristol_text.specs.Words.{words}
 use Rattle.bristol_text.specs.Lines.{Line, blank, bad, counts, widths, other_word, xor_gate, and_gate, inv_gate, eqw_gate, total}
 use Rattle.bristol_text.specs.Heard.{Heard, says, written, two_fault, one_fault, within, line_fault, all_written, complete}
 use Rattle.bristol_text.specs.Renamed.{renamed}
-use Rattle.bristol_text.specs.Told.{told, header_lines}
+use Rattle.bristol_text.specs.Told.{told}
 use Rattle.bristol_wires.specs.declared.Text.{Text}
 use Rattle.bristol_wires.specs.Mirror.{is_written, two_fault_of, fault_of}
 use Rattle.bristol_wires.specs.Pass.{says_by}
@@ -89,7 +89,7 @@ module _ (h : Heard) (t : Text) (ws : List (List ℕ)) (m g : List ℕ) (q : Mat
   same_fault (inv_gate x z) = within_same _ _ (one_same x z)
   same_fault (eqw_gate x z) = within_same _ _ (one_same x z)
 
-  pub complete_is : (eqb (header_lines t.stage) 3 && eqb t.left 0) ≡ complete h
+  pub complete_is : (eqb t.stage 3 && eqb t.left 0) ≡ complete h
   complete_is = rw (q.stage, q.left, left_none (length h.gates) h.said q.few)
 
   pub all_written_is : (vs : List ℕ) → all_entered m t.ins vs ≡ all_written h vs

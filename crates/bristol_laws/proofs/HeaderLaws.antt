@@ -20,7 +20,6 @@ use Rattle.bristol_text.specs.Renamed.{rename_all, inputs_alone}
 use Rattle.bristol_text.proofs.Behind.{or_false}
 use Rattle.bristol_text.proofs.LineLaws.{Said, line_told}
 use Rattle.bristol_text.proofs.Sane.{Sane}
-use Rattle.bristol_text.specs.Told.{header_lines}
 use Rattle.bristol_wires.specs.declared.Text.{Text}
 use Rattle.bristol_wires.specs.Mirror.{entry_of, after_counts, after_widths, nothing_read}
 use Rattle.theory_files.specs.Written.{gate_bytes}
@@ -45,7 +44,7 @@ module _ (m : List ℕ) (clean : (w : ℕ) → get_or m w 0 ≡ 0) (I w : ℕ) w
       rw (i, lt-ltb w 1024 (omega arith)) (omega arith)
 
 pub bare : (h : Heard) (t : Text) (ws : List (List ℕ)) (m g : List ℕ)
-    → h.gates ≡ [] → header_lines t.stage ≡ h.stage → t.wires ≡ h.wires → t.values ≡ length h.ins → t.ins ≡ total h.ins → t.outs ≡ total h.outs
+    → h.gates ≡ [] → t.stage ≡ h.stage → t.wires ≡ h.wires → t.values ≡ length h.ins → t.ins ≡ total h.ins → t.outs ≡ total h.outs
     → t.left ≡ h.said → t.made ≡ 0 → length m ≡ 8192 → length g ≡ 18432 → ((w : ℕ) → get_or m w 0 ≡ 0)
     → (2 ≤ h.stage → numbers ws ≡ are (length h.ins ∷ h.ins))
     → Matches h t ws m g
@@ -110,7 +109,7 @@ module _ (xs : List ℕ) where
 
 module _ (h : Heard) (t : Text) (ws : List (List ℕ)) (m g : List ℕ) (q : Matches h t ws m g) where
   -- behind a line that is not the inputs'
-  pub rewords : (v : List (List ℕ)) → Matches h t (cond (eqb (header_lines t.stage) 1) v ws) m g
+  pub rewords : (v : List (List ℕ)) → Matches h t (cond (eqb t.stage 1) v ws) m g
   rewords v = record {
     stage = q.stage;
     wires = q.wires;
@@ -126,7 +125,7 @@ module _ (h : Heard) (t : Text) (ws : List (List ℕ)) (m g : List ℕ) (q : Mat
     numbered = q.numbered;
     kept = q.kept;
     clean = q.clean;
-    inputs_line = λ l. rw (ne_eqb (header_lines t.stage) 1 (λ e. omega (arith, q.stage))) (q.inputs_line l);
+    inputs_line = λ l. rw (ne_eqb t.stage 1 (λ e. omega (arith, q.stage))) (q.inputs_line l);
   }
 
   module _ (s : Sane h) (early : h.stage < 3) where
@@ -147,12 +146,12 @@ module _ (h : Heard) (t : Text) (ws : List (List ℕ)) (m g : List ℕ) (q : Mat
         bare _ _ v m g none refl refl q.values q.ins q.outs refl none_made q.map_long q.gates_long (q.clean early) (λ l. absurd (omega arith))
 
     pub widths_match : (xs : List ℕ) (v : List (List ℕ)) (K : ℕ) → h.stage ≡ K → 0 < K → numbers v ≡ are (length xs ∷ xs)
-        → Matches (hear_widths K h xs) (after_widths t (length xs) (total xs)) (cond (eqb (header_lines t.stage) 1) v ws) m g
+        → Matches (hear_widths K h xs) (after_widths t (length xs) (total xs)) (cond (eqb t.stage 1) v ws) m g
     unfolding hear_widths after_widths
     widths_match xs v zero e l n = absurd (omega arith)
     widths_match xs v (suc zero) e l n =
         rw (q.stage, e)
         (bare _ _ v m g none refl q.wires refl refl q.outs all_left none_made q.map_long q.gates_long (q.clean early) (λ k. n))
     widths_match xs v (suc (suc K)) e l n =
-        rw (ne_eqb (header_lines t.stage) 1 (λ k. omega (arith, q.stage)))
+        rw (ne_eqb t.stage 1 (λ k. omega (arith, q.stage)))
         (bare _ _ ws m g none refl q.wires q.values q.ins refl all_left none_made q.map_long q.gates_long (q.clean early) (λ k. q.inputs_line (omega arith)))

@@ -15,7 +15,7 @@ use Rattle.bristol_text.specs.Words.{words}
 use Rattle.bristol_text.specs.Lines.{Line, blank, bad, counts, widths, other_word, xor_gate, and_gate, inv_gate, eqw_gate, are, numbers, total}
 use Rattle.bristol_text.specs.Heard.{Heard, hear_gate, hear, says, writes, written, two_fault, within, line_fault}
 use Rattle.bristol_text.specs.Renamed.{makes, rename, renamed}
-use Rattle.bristol_text.specs.Told.{told, header_lines}
+use Rattle.bristol_text.specs.Told.{told}
 use Rattle.bristol_text.proofs.LineLaws.{Said, line_told}
 use Rattle.bristol_text.proofs.Sane.{Sane, two_joins, one_joins}
 use Rattle.bristol_wires.specs.declared.Text.{Text}
@@ -94,7 +94,7 @@ module _ (h : Heard) (t : Text) (ws : List (List ℕ)) (m g : List ℕ) (q : Mat
 -- a line by what it says
 module _ (h : Heard) (t : Text) (ws v : List (List ℕ)) (m g : List ℕ) (q : Matches h t ws m g) (s : Sane h) where
   abbrev now : List (List ℕ)
-  now = cond (eqb (header_lines t.stage) 1) v ws
+  now = cond (eqb t.stage 1) v ws
 
   kept : Matches h t now m g
   kept = rewords h t ws m g q v
@@ -130,6 +130,6 @@ module _ (h : Heard) (t : Text) (ws v : List (List ℕ)) (m g : List ℕ) (q : M
 
 pub matches_hears : (h : Heard) (t : Text) (ws : List (List ℕ)) (m g : List ℕ) → Matches h t ws m g → Sane h
     → (bytes : List ℕ) → let l = says h bytes in line_fault h l ≡ 0
-    → Matches (hear h l) (text_after t (told l)) (cond (eqb (header_lines t.stage) 1) (words bytes) ws) (map_after t m (told l)) (gates_after t m (told l) g)
+    → Matches (hear h l) (text_after t (told l)) (cond (eqb t.stage 1) (words bytes) ws) (map_after t m (told l)) (gates_after t m (told l) g)
 matches_hears h t ws m g q s bytes f =
     said_match h t ws (words bytes) m g q s (says h bytes) (line_told h.stage h.wires (words bytes)) f (λ xs. widths_words xs h.stage h.wires (words bytes))

@@ -17,7 +17,7 @@ use Rattle.theory_calls.proofs.Refusals.{Passes, verdict_first, verdict_skips}
 use Rattle.std.proofs.Common.{Option}
 use Rattle.bristol_text.specs.Words.{words}
 use Rattle.bristol_text.specs.Heard.{Heard, nothing_heard, hear, says, heard_from, heard, line_fault}
-use Rattle.bristol_text.specs.Told.{told, header_lines}
+use Rattle.bristol_text.specs.Told.{told}
 use Rattle.bristol_text.specs.Call.{fault_at, lines_check}
 use Rattle.bristol_text.specs.declared.Says.{Says}
 use Rattle.bristol_text.proofs.LineLaws.{line_told}
@@ -61,7 +61,7 @@ goes (l ∷ ls) h t ws m g n q s =
     a' = told (says h l)
 
     on : Option Says → Passed
-    on a = pass_from (n + 1) (text_after t a) (cond (eqb (header_lines t.stage) 1) (words l) ws) (map_after t m a) (gates_after t m a g) ls
+    on a = pass_from (n + 1) (text_after t a) (cond (eqb t.stage 1) (words l) ws) (map_after t m a) (gates_after t m a g) ls
 
     off : Option Says → Passed
     off a = record { fault = fault_of t m a; line = n + 1; text = t; words = ws; map = m; gates = g }
@@ -70,7 +70,7 @@ goes (l ∷ ls) h t ws m g n q s =
     turn a = cond (eqb (fault_of t m a) 0) (on a) (off a)
 
     go : (b : Bool) → eqb (fault_of t m a') 0 ≡ b
-        → (Matches (hear h (says h l)) (text_after t a') (cond (eqb (header_lines t.stage) 1) (words l) ws) (map_after t m a') (gates_after t m a' g) → Sane (hear h (says h l))
+        → (Matches (hear h (says h l)) (text_after t a') (cond (eqb t.stage 1) (words l) ws) (map_after t m a') (gates_after t m a' g) → Sane (hear h (says h l))
         → Goes (hear h (says h l)) (n + 1) ls (on a'))
         → Goes h n (l ∷ ls) (cond b (on a') (off a'))
     go true e ih =

@@ -8,7 +8,6 @@ use Rattle.theory_files.specs.Written.{gate_bytes}
 use Rattle.bristol_text.specs.Lines.{are, numbers, total}
 use Rattle.bristol_text.specs.Heard.{Heard, written}
 use Rattle.bristol_text.specs.Renamed.{renamed}
-use Rattle.bristol_text.specs.Told.{header_lines}
 use Rattle.bristol_wires.specs.declared.Text.{Text}
 use Rattle.bristol_wires.specs.Mirror.{entry_of}
 
@@ -23,7 +22,7 @@ all_entered m I [] = true
 all_entered m I (w ∷ ws) = not (eqb (entry_of m I w) 0) && all_entered m I ws
 
 pub record Matches (h : Heard) (t : Text) (ws : List (List ℕ)) (m g : List ℕ) : Type 0 where
-  pub stage : header_lines t.stage ≡ h.stage
+  pub stage : t.stage ≡ h.stage
   pub wires : t.wires ≡ h.wires
   pub values : t.values ≡ length h.ins
   pub ins : t.ins ≡ total h.ins

@@ -19,7 +19,6 @@ use Rattle.check_refusal.specs.Number.{number_of, place_of}
 use Rattle.bristol_text.specs.Words.{lines, split, but_empty_last}
 use Rattle.bristol_text.specs.declared.Says.{Says}
 use Rattle.bristol_text.specs.declared.Says.TheVariants.{Blank}
-use Rattle.bristol_text.specs.Told.{header_lines}
 use Rattle.bristol_lines.specs.declared.Line.{Line}
 use Rattle.bristol_lines.specs.Mirror.{says_of, LineFrom}
 use Rattle.bristol_words.specs.Mirror.{rest_line, words_at, line_end}
@@ -70,7 +69,7 @@ module _ (tx : List ℕ) (n at seat : ℕ) (t : Text) (m g : List ℕ) (h : at <
             let a : number_of d ≡ fault_of t m (Some r.says) = cc in
             rw a (turn_stop (Some r.says) l.says f)
 
-    pub turn_on : accepted ≡ line_verdict (fault_of t m (Some r.says)) (n + 1) → (seat2 : ℕ) → seat2 ≡ cond (eqb (header_lines t.stage) 1) at seat
+    pub turn_on : accepted ≡ line_verdict (fault_of t m (Some r.says)) (n + 1) → (seat2 : ℕ) → seat2 ≡ cond (eqb t.stage 1) at seat
         → (m2 g2 : List ℕ) (t2 : Text) → m2 ≡ map_after t m (Some r.says) → g2 ≡ gates_after t m (Some r.says) g → t2 ≡ text_after t (Some r.says)
         → (at2 : ℕ) → at2 ≡ behind_of tx r.end
         → pass_from (n + 1) t2 (words_at tx seat2) m2 g2 (lines (drop at2 tx)) ≡ v
@@ -79,7 +78,7 @@ module _ (tx : List ℕ) (n at seat : ℕ) (t : Text) (m g : List ℕ) (h : at <
         let e : Some r.says ≡ says_by t (words_at tx at) = l.says in
         let good : eqb (fault_of t m (says_by t (words_at tx at))) 0 ≡ true = rw (← e) (fine q) in
         let y = rw good at here in
-        rw (a, bm, bg, bt, j, l.ends, e, seat_words tx (eqb (header_lines t.stage) 1) at seat) y
+        rw (a, bm, bg, bt, j, l.ends, e, seat_words tx (eqb t.stage 1) at seat) y
       where
         go : (b : Bool) → accepted ≡ cond b accepted (refuses (fault_of t m (Some r.says)) (n + 1)) → b ≡ true
         go true c = refl
@@ -89,7 +88,7 @@ module _ (tx : List ℕ) (n at seat : ℕ) (t : Text) (m g : List ℕ) (h : at <
         fine c = go (eqb (fault_of t m (Some r.says)) 0) c
 
     -- a blank line says nothing, so that nothing of what is known moves
-    pub turn_blank : r.says ≡ Blank → (seat2 : ℕ) → seat2 ≡ cond (eqb (header_lines t.stage) 1) at seat → (at2 : ℕ) → at2 ≡ behind_of tx r.end
+    pub turn_blank : r.says ≡ Blank → (seat2 : ℕ) → seat2 ≡ cond (eqb t.stage 1) at seat → (at2 : ℕ) → at2 ≡ behind_of tx r.end
         → pass_from (n + 1) t (words_at tx seat2) m g (lines (drop at2 tx)) ≡ v
     unfolding fault_of map_after gates_after text_after
     turn_blank b seat2 a at2 j = turn_on (rw b refl) seat2 a m g t (rw b refl) (rw b refl) (rw b refl) at2 j

@@ -4,12 +4,11 @@
 ghost use Rattle.std.specs.Prelude.{◌≡◌, cond, ◌≤◌, length, eqb, IfOk, IfErr};
 ghost use Rattle.check_refusal.specs.Number.{place_of};
 ghost use Rattle.bristol_text.specs.Words.{lines};
-ghost use Rattle.bristol_text.specs.Told.{header_lines};
 ghost use Rattle.bristol_words.specs.Mirror.{words_at};
 ghost use Rattle.bristol_wires.specs.Pass.{pass_from};
 ghost use Rattle.bristol_pass.specs.Mirror.{behind_of, ended_pass, Told};
 
-use bristol_text::{Says, Stage};
+use bristol_text::Says;
 use bristol_wires::{Numbering, Text};
 use check_refusal::Refusal;
 
@@ -38,13 +37,11 @@ fn behind(text: &[u8], end: usize) -> usize
 }
 
 // The inputs' line is the one behind the counts.
-fn seat_after(stage: Stage, seat: usize, at: usize) -> usize
-    ensures { result ≡ cond (eqb (header_lines stage) 1) at seat }
+#[tactic(auto, using(crate::proofs::TurnLaws::behind_the_counts, crate::proofs::TurnLaws::seat_kept))]
+fn seat_after(stage: u32, seat: usize, at: usize) -> usize
+    ensures { result ≡ cond (eqb stage 1) at seat }
 {
-    match stage {
-        Stage::Inputs => at,
-        _ => seat,
-    }
+    if stage == 1 { at } else { seat }
 }
 
 // The pass, behind lines that said so much, over a map of any length. A `while`: where the next line begins is known when this one is read, and no
@@ -61,7 +58,7 @@ pub fn read_lines(text: &[u8], before: Text, map: &mut [u16], gates: &mut [u8]) 
     let mut at: usize = 0;
     while at < text.len() {
         pass.lines += 1;
-        let Some(line) = bristol_lines::line_by(text, at, t.stage, t.wires) else {
+        let Some(line) = bristol_lines::line_at(text, at, t.stage, t.wires) else {
             return Ended {
                 check: Err(Refusal::TextLine(pass.lines)),
                 text: t,

@@ -7,10 +7,8 @@ use Rattle.std.specs.Prelude.{Bool, not, cond, ◌&&◌, List, [], ◌∷◌, �
 use Rattle.theory_calls.specs.Checks.{Verdict, accepted, refuses}
 use Rattle.theory_files.specs.Written.{gate_bytes}
 use Rattle.file_writer.specs.Mirror.{write}
-use Rattle.bristol_text.specs.Told.{header_lines}
 use Rattle.bristol_text.specs.declared.Says.{Says}
 use Rattle.bristol_text.specs.declared.Says.TheVariants.{Blank, Counts, Widths, Other, Xor, And, Inv, Eqw}
-use Rattle.bristol_text.specs.declared.Stage.TheVariants as next
 use Rattle.bristol_wires.specs.declared.Text.{Text}
 
 unfoldable pub entry_of : List ℕ → ℕ → ℕ → ℕ
@@ -78,13 +76,13 @@ unfoldable pub one_more : ℕ → ℕ
 one_more made = cond (leb made 3072) (made + 1) made
 
 unfoldable pub after_counts : Text → ℕ → ℕ → Text
-after_counts t g w = record { stage = next.Inputs; wires = w; values = t.values; ins = t.ins; outs = t.outs; left = g; made = t.made }
+after_counts t g w = record { stage = 1; wires = w; values = t.values; ins = t.ins; outs = t.outs; left = g; made = t.made }
 
 unfoldable pub after_widths : Text → ℕ → ℕ → Text
 after_widths t v s =
-    cond (eqb (header_lines t.stage) 1)
-    (record { stage = next.Outputs; wires = t.wires; values = v; ins = s; outs = t.outs; left = t.left; made = t.made })
-    (record { stage = next.Gates; wires = t.wires; values = t.values; ins = t.ins; outs = s; left = t.left; made = t.made })
+    cond (eqb t.stage 1)
+    (record { stage = 2; wires = t.wires; values = v; ins = s; outs = t.outs; left = t.left; made = t.made })
+    (record { stage = 3; wires = t.wires; values = t.values; ins = t.ins; outs = s; left = t.left; made = t.made })
 
 unfoldable pub after_gate : Text → ℕ → Text
 after_gate t made = record { stage = t.stage; wires = t.wires; values = t.values; ins = t.ins; outs = t.outs; left = t.left - 1; made = made }
@@ -101,4 +99,4 @@ text_after t (Some (Inv x z)) = after_gate t (one_more t.made)
 text_after t (Some (Eqw x z)) = after_gate t t.made
 
 unfoldable pub nothing_read : Text
-nothing_read = record { stage = next.Counts; wires = 0; values = 0; ins = 0; outs = 0; left = 0; made = 0 }
+nothing_read = record { stage = 0; wires = 0; values = 0; ins = 0; outs = 0; left = 0; made = 0 }

@@ -11,13 +11,13 @@ ghost use Rattle.check_refusal.specs.Found.{found};
 ghost use Rattle.bristol_wires.specs.Mirror.{entry_of, ours_of, next_entry, two_fault_of, fault_of, line_verdict, kind_of_two, gate_put};
 ghost use Rattle.bristol_wires.specs.Mirror.{map_after, gates_after, one_more, after_widths, after_gate, text_after, nothing_read};
 
-use bristol_text::{Says, Stage};
+use bristol_text::Says;
 use check_refusal::Refusal;
 
-// What the lines before have said. left: how many gate lines are still to come. made: our gates so far, 3,073 where there are more than 3,072.
+// What the lines before have said. stage: how many header lines there were; a number, as whoever asks over slices may have any. left: how many gate lines are still to come. made: our gates so far, 3,073 where there are more than 3,072.
 #[derive(Clone, Copy)]
 pub struct Text {
-    pub stage: Stage,
+    pub stage: u32,
     pub wires: u32,
     pub values: u32,
     pub ins: u32,
@@ -50,7 +50,7 @@ pub fn nothing() -> Text
     ensures { result ≡ nothing_read }
 {
     Text {
-        stage: Stage::Counts,
+        stage: 0,
         wires: 0,
         values: 0,
         ins: 0,
@@ -79,18 +79,18 @@ impl Text {
     fn widened(self, values: u32, sum: u32) -> Text
         ensures { result ≡ after_widths self values sum }
     {
-        match self.stage {
-            Stage::Inputs => Text {
-                stage: Stage::Outputs,
+        if self.stage == 1 {
+            return Text {
+                stage: 2,
                 values,
                 ins: sum,
                 ..self
-            },
-            _ => Text {
-                stage: Stage::Gates,
-                outs: sum,
-                ..self
-            },
+            };
+        }
+        Text {
+            stage: 3,
+            outs: sum,
+            ..self
         }
     }
 
@@ -114,7 +114,7 @@ pub fn after(t: Text, a: Option<Says>) -> Text
     match a {
         None | Some(Says::Blank | Says::Other) => t,
         Some(Says::Counts { gates, wires }) => Text {
-            stage: Stage::Inputs,
+            stage: 1,
             wires,
             left: gates,
             ..t
