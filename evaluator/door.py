@@ -69,7 +69,7 @@ def symbols(elf):
 
 
 def outside(archive):
-    """What an archive's objects want that none of them has."""
+    """What an archive's objects have, and what they want that none of them has."""
     with open(archive, "rb") as file:
         data = file.read()
     had, wanted, at = set(), set(), 8
@@ -81,7 +81,7 @@ def outside(archive):
             had |= more[0]
             wanted |= more[1]
         at += 60 + size + size % 2
-    return wanted - had
+    return had, wanted - had
 
 
 def printed(program, stream):
@@ -101,7 +101,9 @@ def drawn():
 def main():
     if subprocess.run([tool("library")], stdout=subprocess.DEVNULL).returncode:
         fail("the library could not be built")
-    wants = outside(LIBRARY)
+    had, wants = outside(LIBRARY)
+    if "bakebutton_run" not in had:
+        fail("the library's names could not be read")
     if wants - OUTSIDE:
         fail("the library wants from outside " + ", ".join(sorted(wants - OUTSIDE)) + " too")
     streams = {"stored": trials.stored_for_c()}
