@@ -1,6 +1,6 @@
 -- The pass as its loop meets it.
 --     turn_on       a line without a fault, and on behind it;  turn_blank: a blank one
---     stop_bad, stop_checked    a faulty line
+--     stop_bad, stop_checked    a faulty line: all that the pass left, and that the refusal is its fault's
 --     turn_end      behind the last
 --     seat_inside   the inputs' line begins inside the text;  behind_the_counts, seat_kept: where it is
 -- Assumes nothing.
@@ -11,10 +11,11 @@ use Prim.Native.Nat.{ℕ, ◌+◌, ◌<◌, ◌≤◌}
 use native.Mathlib.Omega.{arith}
 use lib.ListN.{length, drop, drop_of_length-le}
 use lib.Dec.{eqb}
-use borrow.Author.Tests.{eq-eqb, ne_eqb}
+use borrow.Author.Tests.{eq-eqb, ne_eqb, eqb-false}
 use Rattle.std.proofs.Common.{◌≢◌, Option, None, Some}
 use Rattle.theory_calls.specs.Checks.{accepted, refuses}
 use Rattle.check_refusal.specs.declared.Refusal.{Refusal}
+use Rattle.check_refusal.specs.declared.Refusal.TheVariants.{TextLine}
 use Rattle.check_refusal.specs.Number.{number_of, place_of}
 use Rattle.bristol_text.specs.Words.{lines, split, but_empty_last}
 use Rattle.bristol_text.specs.declared.Says.{Says}
@@ -25,7 +26,7 @@ use Rattle.bristol_words.specs.Mirror.{rest_line, words_at, line_end}
 use Rattle.bristol_wires.specs.declared.Text.{Text}
 use Rattle.bristol_wires.specs.Mirror.{fault_of, line_verdict, map_after, gates_after, text_after}
 use Rattle.bristol_wires.specs.Pass.{Passed, says_by, pass_from}
-use Rattle.bristol_pass.specs.Mirror.{behind_of}
+use Rattle.bristol_pass.specs.Mirror.{behind_of, Stopped}
 use Rattle.bristol_pass.proofs.LineLaws.{line_front}
 
 -- the place of the inputs' line, and its words
@@ -53,21 +54,26 @@ module _ (tx : List ℕ) (n at seat : ℕ) (t : Text) (m g : List ℕ) (h : at <
       let y = rw bad at here in
       rw e y
 
+  -- the same by the refusal that names it
+  stop_named : (d : Refusal) (f : ℕ) → eqb f 0 ≡ false → number_of d ≡ f → place_of d ≡ n + 1 → stopped f ≡ v → (stopped (number_of d) ≡ v) × Stopped d v
+  stop_named d f z a b y = (
+    rw a y,
+    record { faulty = λ k. eqb-false f 0 z (ap (λ (p : Passed). p.fault) y ∙ k); number = a ∙ ap (λ (p : Passed). p.fault) y; place = b ∙ ap (λ (p : Passed). p.line) y },
+  )
+
   -- a line that is no good text, and one that is checked
-  pub stop_bad : (r : Option Line) → r ≡ None → LineFrom tx at (says_by t (words_at tx at)) r → stopped 15 ≡ v
+  pub stop_bad : (r : Option Line) → r ≡ None → LineFrom tx at (says_by t (words_at tx at)) r → (stopped 15 ≡ v) × Stopped (TextLine (n + 1)) v
   unfolding fault_of
-  stop_bad r e l = turn_stop None (sym (ap says_of e) ∙ l.says) refl
+  stop_bad r e l = stop_named (TextLine (n + 1)) 15 refl refl refl (turn_stop None (sym (ap says_of e) ∙ l.says) refl)
 
   module _ (r : Line) (l : LineFrom tx at (says_by t (words_at tx at)) (Some r)) where
-    pub stop_checked : (d : Refusal) → refuses (number_of d) (place_of d) ≡ line_verdict (fault_of t m (Some r.says)) (n + 1) → stopped (number_of d) ≡ v
+    pub stop_checked : (d : Refusal) → refuses (number_of d) (place_of d) ≡ line_verdict (fault_of t m (Some r.says)) (n + 1) → (stopped (number_of d) ≡ v) × Stopped d v
     stop_checked d q = go (eqb (fault_of t m (Some r.says)) 0) refl q
       where
         go : (b : Bool) → eqb (fault_of t m (Some r.says)) 0 ≡ b → refuses (number_of d) (place_of d) ≡ cond b accepted (refuses (fault_of t m (Some r.says)) (n + 1))
-            → stopped (number_of d) ≡ v
+            → (stopped (number_of d) ≡ v) × Stopped d v
         go true f c = absurd (cc)
-        go false f c =
-            let a : number_of d ≡ fault_of t m (Some r.says) = cc in
-            rw a (turn_stop (Some r.says) l.says f)
+        go false f c = stop_named d (fault_of t m (Some r.says)) f (cc) (cc) (turn_stop (Some r.says) l.says f)
 
     pub turn_on : accepted ≡ line_verdict (fault_of t m (Some r.says)) (n + 1) → (seat2 : ℕ) → seat2 ≡ cond (eqb t.stage 1) at seat
         → (m2 g2 : List ℕ) (t2 : Text) → m2 ≡ map_after t m (Some r.says) → g2 ≡ gates_after t m (Some r.says) g → t2 ≡ text_after t (Some r.says)

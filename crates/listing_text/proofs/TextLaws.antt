@@ -1,7 +1,7 @@
 -- What holds of the listing's lines.
 --     good_lines                                 theory_calls' good_text is lines_of, by the circuit's numbers
 --     line_length, counts_length, head_length    their lengths
---     line_refused, line_out, lines_room, head_room    the room that is enough
+--     line_refused, line_out, lines_room, head_room    the room that is enough;  refused_put: by a refusal's number and place
 --     PutItem                                    a word with its number, written
 --     item_made, line_put, counts_put, head_put, good_put    each writer's answer from those of its calls
 --     lines_none, lines_turn, lines_end          the loop over outputs
@@ -74,6 +74,9 @@ good_put i g o total outs l m k h r s t a b c =
 pub line_length : (w : List ℕ) (n p : ℕ) → length (line_of w n p) ≡ length w + length (decimal n) + 1 + length (decimal p) + 1
 unfolding line_of
 line_length w n p = simp length-append
+
+pub refused_put : (a b n p : ℕ) (l m : List ℕ) (r : ℕ) → a ≡ n → b ≡ p → Filled (refused_text a b) l m r → Filled (refused_text n p) l m r
+refused_put a b n p l m r en ep f = rw (← en, ← ep) f
 
 pub line_refused : (n p : ℕ) → n < 10 ^ 20 → p < 10 ^ 20 → length (line_of word_refused n p) ≤ 50
 line_refused n p h g =

@@ -4,7 +4,7 @@ use Rattle.bristol_pass.proofs.TurnLaws.{turn_on, turn_blank, stop_bad, stop_che
 use Rattle.bristol_pass.proofs.read_lines.Goals as goal
 
 pub returns-in_default-clause-told : goal.returns-in_default-clause-told
-returns-in_default-clause-told c = stop_bad _ _ _ c.loop-at.pass.seat _ _ _ c.loop-at-test.true _ c.loop-at.invariant.3 _ c.in_default.is c.line_at.ensures
+returns-in_default-clause-told c = (stop_bad _ _ _ c.loop-at.pass.seat _ _ _ c.loop-at-test.true _ c.loop-at.invariant.3 _ c.in_default.is c.line_at.ensures).0
 
 pub behind-at-requires : goal.behind-at-requires
 behind-at-requires c = end_in _ c.loop-at.at _ c.loop-at.invariant.0 c.in-Some.ensures.ends
@@ -20,7 +20,7 @@ loop-at-smaller-in-Blank c = let k = next_place _ c.loop-at.at _ _ c.loop-at-tes
 
 pub returns-in-Err-clause-told : goal.returns-in-Err-clause-told
 returns-in-Err-clause-told c =
-    stop_checked _ _ _ c.loop-at.pass.seat _ _ _ c.loop-at-test.true _ c.loop-at.invariant.3 _ c.in-Some.ensures _ c.in-Err.ensures
+    (stop_checked _ _ _ c.loop-at.pass.seat _ _ _ c.loop-at-test.true _ c.loop-at.invariant.3 _ c.in-Some.ensures _ c.in-Err.ensures).0
 
 pub loop-at-preserved : goal.loop-at-preserved
 loop-at-preserved c =
